@@ -1,0 +1,6 @@
+use Prim.Native.Nat.{_/_}
+use Rattle.std.proofs.shelf.Bits.{and-mask}
+use Rattle.grammar.proofs.word.a_of.Needs as need
+
+pub returns : need.returns
+returns c = and-mask (c .args .word / 262144) 10

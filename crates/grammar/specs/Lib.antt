@@ -1,0 +1,5 @@
+pub mod Faults
+pub mod Form
+pub mod Marks
+pub mod Questions
+pub mod Words

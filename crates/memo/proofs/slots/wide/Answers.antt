@@ -1,0 +1,11 @@
+use mathlib.Core.Path.{_≡_, _∙_, ap}
+use Prim.Native.Nat.{ℕ, _*_, _%_}
+use native.Mathlib.Omega.{arith}
+use lib.Bits.{bitOr}
+use Rattle.std.proofs.shelf.Bits.{or-shifted}
+use Rattle.memo.proofs.slots.wide.Needs as need
+
+pub returns : need.returns
+returns c =
+    let whole : c .from .result * 4294967296 % 18446744073709551616 ≡ c .from .result * 4294967296 = omega arith in
+    ap (λ (n : ℕ). bitOr n (c .from-2 .result)) whole ∙ or-shifted (c .from .result) 32 (c .from-2 .result) (omega arith) ∙ omega arith

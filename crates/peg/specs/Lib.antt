@@ -1,0 +1,17 @@
+pub mod Results
+pub mod Rules
+pub mod Halting
+pub mod Moves
+pub mod Summaries
+pub mod Readings
+pub mod Rows
+pub mod Edits
+pub mod Members
+pub mod Totality
+pub mod Fitting
+pub mod Completing
+pub mod Counting
+pub mod Known
+pub mod Settling
+pub mod Evaluation
+pub mod Worked

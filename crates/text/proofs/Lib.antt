@@ -1,0 +1,3 @@
+pub mod Laws
+mod Changes
+mod Moves
