@@ -21,6 +21,10 @@ use Rattle.reading.specs.declared.refusal.Refusal.the-variants.{Uncovered}
 use Rattle.reading.specs.declared.reply.Answer.{Answer}
 use Rattle.reading.specs.Reads.{Setting, setting, Store, store, Res, rule, Reads}
 use Rattle.reading.specs.Replies.{answer-of, Replies, uncovered, covered}
+use Rattle.reading.specs.declared.reply.Reply.{Reply}
+use Rattle.reading.specs.Promises.{Promised}
+use Rattle.reading.proofs.Promises.{promised}
+use Rattle.reading.proofs.Truth.{proper, some-rule}
 use Rattle.engine.specs.Machine.{Sane}
 
 inside : {E : Type 0} (fits : ℕ → ℕ → E → Bool) (xs : List E) (a b i : ℕ) → accepted fits xs a b i ≡ true → i < length xs
@@ -49,3 +53,8 @@ module _ (G : Setting) (cap : ℕ) (T : Table) (p c q r : ℕ) (ep : p ≡ G .P)
       let a = yes8 .0 in
       let b = yes8 .1 in
       subst (λ (y : Result Answer Refusal). Replies G cap T (record { result = y; fresh = U .fresh }) (U .rows)) (sym e) (covered (omega arith, omega arith) reads)
+
+-- a reading by an accepted row keeps its promises
+pub promised-of : {E : Type 0} (ws : List ℕ) → Accepted ws → (fits : ℕ → ℕ → E → Bool) (xs : List E) (k : ℕ) (keeps : Bool) (P Q cap : ℕ) (T U : Table) (q : Reply)
+    → Replies (setting (meaning ws) fits xs k keeps P Q) cap T q U → Promised (setting (meaning ws) fits xs k keeps P Q) cap T q U
+promised-of {E} ws ok fits xs k keeps P Q cap T U q = promised (setting (meaning ws) fits xs k keeps P Q) (proper E ws ok fits xs k keeps P Q) (some-rule ws ok) cap T U q

@@ -8,6 +8,7 @@ ghost use Rattle.grammar.specs.Words.{meaning};
 ghost use Rattle.engine.specs.Frames.{blanked};
 ghost use Rattle.reading.specs.Reads.{setting, store, rule, Reads};
 ghost use Rattle.engine.specs.Machine.{Sane};
+ghost use Rattle.reading.specs.Promises.{Promised};
 ghost use Rattle.reading.specs.Replies.{answer-of, Replies};
 use crate::find::found;
 use crate::frame::Frame;
@@ -74,6 +75,7 @@ fn covers(places: usize, capacity: usize, rules: usize, needed: usize) -> bool
 
 /// Reads a text by a grammar: rule 0 at place 0 in mode on.
 ///
+/// The reply and the rows left are those of a reading (`replies`); what that promises, by number and in the words of the rules, is `promised`.
 /// The frames come back blank on every way out, whatever they held; their number bounds the depth.
 pub fn read<T: Text, M: Memory>(
     grammar: &Grammar<'_>,
@@ -82,6 +84,7 @@ pub fn read<T: Text, M: Memory>(
     frames: &mut [Frame],
 ) -> Reply
     ensures replies { λ r. ⌜ Replies (setting (meaning (now (now (grammar .entry) .words))) fits (elements (now (text .entry))) (length (now (frames .entry))) keeps (P (now (memory .entry))) (Q (now (memory .entry)))) (room (now (text .entry))) (table (now (memory .entry))) r (table (now (memory .exit))) ⌝ }
+    ensures promised { λ r. ⌜ Promised (setting (meaning (now (now (grammar .entry) .words))) fits (elements (now (text .entry))) (length (now (frames .entry))) keeps (P (now (memory .entry))) (Q (now (memory .entry)))) (room (now (text .entry))) (table (now (memory .entry))) r (table (now (memory .exit))) ⌝ }
     ensures blank { λ _. ⌜ now (frames .exit) ≡ blanked (now (frames .entry)) ⌝ }
     ensures places { λ _. ⌜ P (now (memory .exit)) ≡ P (now (memory .entry)) ⌝ }
     ensures rules { λ _. ⌜ Q (now (memory .exit)) ≡ Q (now (memory .entry)) ⌝ }

@@ -23,7 +23,7 @@ use Rattle.peg.proofs.Counting.{learned-old, learned-new, learned-only, learne
 
 module _ (g : Peg) (t : Text) where
   -- known with all that was completed
-  closes : (i d : ℕ) (ks zs : List Rule-place) → Known g t ks → ((z : Rule-place) → In z zs → Completed g t i d zs z) → Known g t (learned ks zs)
+  pub closes : (i d : ℕ) (ks zs : List Rule-place) → Known g t ks → ((z : Rule-place) → In z zs → Completed g t i d zs z) → Known g t (learned ks zs)
   closes i d ks zs h f = record {
     derived = λ z p. elim (learned-only ks zs z p) [ inl q ↦ h .derived z q | inr q ↦ (f z q .result, f z q .gives) ];
     closed = λ z p v a y q. elim (learned-only ks zs z p) [
