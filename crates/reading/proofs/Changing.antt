@@ -1,22 +1,22 @@
 -- What a reading's parts do to the rows held, put together: rows held afterwards, rows put, each once.
-use mathlib.Core.Path.{_≡_, refl, sym, _∙_, ap, subst}
+use mathlib.Core.Path.{_≡_, refl, sym, _∙_, subst}
 use mathlib.Core.Bool.{Bool, true, false, cond}
 use mathlib.Core.List.{List, [], _∷_, _++_}
 use mathlib.Core.Logic.{_⊎_, inl, inr, _↔_}
-use Prim.Native.Nat.{ℕ, suc, _+_, _<_, _≤_}
+use Prim.Native.Nat.{ℕ, _+_, _<_, _≤_}
 use native.Mathlib.Omega.{arith}
 use lib.ListN.{length, length-append}
-use Rattle.std.specs.declared.option.Option.the-variants.{Some, None}
+use Rattle.std.specs.declared.option.Option.the-variants.{None}
 use Rattle.grammar.specs.declared.expr.Mode.{Mode}
 use Rattle.peg.specs.Members.{In, Distinct}
 use Rattle.peg.specs.Results.{Rule-place}
 use Rattle.peg.specs.Counting.{holds, learned, fresh}
 use Rattle.peg.specs.Known.{Known}
 use Rattle.peg.proofs.Members.{in-append, in-left, in-right}
-use Rattle.peg.proofs.Counting.{by-known, learned-old, learned-new, learned-only, fresh-append, fresh-none, fresh-exact}
+use Rattle.peg.proofs.Counting.{by-known, learned-old, learned-new, learned-only, fresh-append, fresh-none}
 use Rattle.memo.specs.declared.row.Row.{Row}
 use Rattle.memo.specs.Tables.{Table, Puts}
-use Rattle.reading.specs.Reads.{Setting, Store}
+use Rattle.reading.specs.Reads.{Setting}
 use Rattle.reading.specs.Putting.{at, Held}
 use Rattle.reading.specs.Counts.{Held-in, Held-are, Keeps-all}
 use Rattle.reading.proofs.Once.{none, same-key}

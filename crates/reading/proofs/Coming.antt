@@ -1,38 +1,35 @@
 -- What the rules alone come to, with a number of frames: a whole from its parts, and in one way.
-use mathlib.Core.Path.{_≡_, refl, sym, _∙_, ap, subst}
+use mathlib.Core.Path.{_≡_, refl, ap, subst}
 use mathlib.Core.Bool.{true, false}
-use mathlib.Core.List.{List, [], _∷_, _++_}
-use Prim.Native.Nat.{ℕ, zero, suc, _+_, _-_, _<_, _≤_}
+use mathlib.Core.List.{List, _++_}
+use Prim.Native.Nat.{ℕ, suc, _+_, _-_, _≤_}
 use native.Mathlib.Omega.{arith}
-use native.Mathlib.Decide.{decLe}
-use Rattle.std.specs.declared.option.Option.the-variants.{Some, None}
+use Rattle.std.specs.declared.option.Option.the-variants.{Some}
 use Rattle.std.specs.declared.result.Result.the-variants.{Ok, Err}
 use Rattle.grammar.specs.declared.expr.Mode.{Mode}
 use Rattle.grammar.specs.declared.expr.Mode.the-variants.{On, Off}
 use Rattle.grammar.specs.declared.expr.Expr.{Expr}
-use Rattle.grammar.specs.declared.expr.Expr.the-variants.{Empty, Terminal, Call, Sequence, Choice, Repetition, Predicate, Throw}
+use Rattle.grammar.specs.declared.expr.Expr.the-variants.{Call, Sequence, Choice, Repetition, Predicate, Throw}
 use Rattle.grammar.specs.Words.{Peg}
 use Rattle.grammar.specs.Form.{Recovers}
 use Rattle.peg.specs.declared.results.Outcome.the-variants.{Match, Failure}
 use Rattle.peg.specs.declared.results.Reading.{Reading}
 use Rattle.peg.specs.Results.{Rule-place, Given, told}
-use Rattle.peg.specs.Rules.{Text, Gives, Rule-gives, caught, of-sequence, of-other, of-round, of-recovery}
-use Rattle.peg.specs.Rules.{empty-matches, terminal-matches, terminal-fails, call-gives, sequence-goes-on, sequence-fails, choice-stays, choice-turns, repetition-ends, repetition-fails, repetition-goes-on, predicate-denies, throw-fails, throw-recovers, as-its-body}
-use Rattle.peg.specs.Halting.{Halts, Rule-halts}
-use Rattle.peg.specs.Halting.{too-deep, in-body, in-first, in-second, in-one, in-other, in-round, in-later-round, in-predicate, in-recovery}
+use Rattle.peg.specs.Rules.{Text, Rule-gives, caught}
+use Rattle.peg.specs.Rules.{sequence-goes-on, sequence-fails, choice-stays, choice-turns, repetition-ends, repetition-fails, repetition-goes-on, predicate-denies, throw-recovers, as-its-body}
+use Rattle.peg.specs.Halting.{Rule-halts}
+use Rattle.peg.specs.Halting.{in-body, in-first, in-second, in-one, in-other, in-round, in-later-round, in-predicate, in-recovery}
 use Rattle.peg.specs.Readings.{read-deeper, read-sequence, read-other, read-end, read-round, read-predicate, read-recovery}
 use Rattle.peg.specs.Known.{Known}
 use Rattle.peg.specs.Counting.{learned}
 use Rattle.peg.proofs.Rules.{one, one-rule, call-of-rule}
-use Rattle.peg.proofs.Halting.{apart, one-halt, rule-deeper}
+use Rattle.peg.proofs.Halting.{apart, one-halt}
 use Rattle.peg.proofs.Readings.{told-sequence, told-round, told-recovery}
 use Rattle.peg.proofs.Completing.{completed, completed-halted}
 use Rattle.peg.proofs.Known.{closes}
 use Rattle.reading.specs.declared.refusal.Refusal.{Refusal}
-use Rattle.reading.specs.declared.refusal.Refusal.the-variants.{TooDeep}
 use Rattle.reading.specs.Reads.{Res, each}
 use Rattle.reading.specs.Truth.{Comes, gives, halts, Rule-comes, rule-gives, rule-halts}
-use Rattle.reading.proofs.Once.{none}
 
 module _ (g : Peg) (t : Text) where
   -- a whole, with one frame more than its parts

@@ -1,25 +1,22 @@
 -- How many rows are put, and which are held afterwards.
-use mathlib.Core.Path.{_≡_, refl, sym, _∙_, ap, subst}
+use mathlib.Core.Path.{_≡_, subst}
 use mathlib.Core.List.{List, [], _∷_, _++_}
-use mathlib.Core.Logic.{_⊎_, inl, inr, _↔_}
 use Prim.Native.Nat.{ℕ, _+_, _-_, _<_, _≤_, min}
 use native.Mathlib.Omega.{arith}
 use lib.ListN.{length, length-append}
 use Rattle.grammar.specs.declared.expr.Mode.{Mode}
 use Rattle.grammar.specs.declared.expr.Mode.the-variants.{On}
-use Rattle.peg.specs.Members.{In}
 use Rattle.peg.specs.Results.{Rule-place}
-use Rattle.peg.specs.Counting.{learned, fresh}
-use Rattle.peg.specs.Known.{Known}
+use Rattle.peg.specs.Counting.{fresh}
 use Rattle.peg.proofs.Counting.{fresh-exact}
 use Rattle.memo.specs.Tables.{Table}
 use Rattle.reading.specs.declared.reply.Reply.{Reply}
-use Rattle.reading.specs.Reads.{Setting, Store, store, Res, Asked, rule, Reads, most-fresh}
+use Rattle.reading.specs.Reads.{Setting, Store, Res, Asked, rule, Reads, most-fresh}
 use Rattle.reading.specs.Replies.{Covers, Replies, uncovered, covered}
-use Rattle.reading.specs.Putting.{at, Held, put}
+use Rattle.reading.specs.Putting.{at, put}
 use Rattle.reading.specs.Truth.{All-true, Proper, Known-asked, Comes-to}
-use Rattle.reading.specs.Counts.{Held-in, Held-are, Keeps-all, Just-fresh, Counted, Reply-counted, Counts}
-use Rattle.reading.proofs.Changing.{Exact, Changes, after}
+use Rattle.reading.specs.Counts.{Counted, Reply-counted, Counts}
+use Rattle.reading.proofs.Changing.{Changes, after}
 use Rattle.reading.proofs.Standing.{stands}
 use Rattle.reading.proofs.Truth.{to-once}
 

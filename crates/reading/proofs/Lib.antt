@@ -5,4 +5,6 @@ pub mod Coming
 pub mod Standing
 pub mod Truth
 pub mod Counts
+pub mod Shifting
+pub mod Steps
 pub mod Promises

@@ -1,13 +1,13 @@
 -- A row of what was derived tells it again, and fits the text and the grammar.
-use mathlib.Core.Path.{_≡_, refl, sym, _∙_, ap, subst}
-use mathlib.Core.Bool.{Bool, true, false, cond, _&&_}
+use mathlib.Core.Path.{_≡_, refl, sym, ap, subst}
+use mathlib.Core.Bool.{true, cond, _&&_}
 use mathlib.Core.List.{List, [], _∷_, _++_}
-use Prim.Native.Nat.{ℕ, zero, suc, _+_, _-_, _<_, _≤_}
+use Prim.Native.Nat.{ℕ, _+_, _-_, _<_, _≤_}
 use native.Mathlib.Omega.{arith}
 use lib.Dec.{ltb}
 use Rattle.std.specs.declared.option.Option.{Option}
 use Rattle.std.specs.declared.option.Option.the-variants.{Some, None}
-use Rattle.std.proofs.shelf.Tests.{lt-ltb, le-ltb}
+use Rattle.std.proofs.shelf.Tests.{lt-ltb}
 use Rattle.grammar.specs.declared.expr.Mode.{Mode}
 use Rattle.grammar.specs.declared.expr.Expr.{Expr}
 use Rattle.grammar.specs.Words.{Peg}
@@ -15,17 +15,15 @@ use Rattle.peg.specs.declared.results.Outcome.{Outcome}
 use Rattle.peg.specs.declared.results.Outcome.the-variants.{Match, Failure}
 use Rattle.peg.specs.declared.results.Note.{Note}
 use Rattle.peg.specs.declared.results.Recoveries.{Recoveries}
-use Rattle.peg.specs.declared.results.Reading.{Reading}
 use Rattle.peg.specs.Results.{Recovery, Given, told, summary}
 use Rattle.peg.specs.Rules.{Text, Gives, Rule-gives, if-matched, recovered}
 use Rattle.peg.specs.Rules.{empty-matches, terminal-matches, terminal-fails, call-gives, sequence-goes-on, sequence-fails, choice-stays, choice-turns, repetition-ends, repetition-fails, repetition-goes-on, predicate-denies, throw-fails, throw-recovers, as-its-body}
-use Rattle.peg.specs.Readings.{no-recoveries}
 use Rattle.peg.specs.Fitting.{Outcome-fits, Note-fits}
-use Rattle.peg.proofs.Places.{Out-from, Note-from, All-from, Placed}
+use Rattle.peg.proofs.Places.{Out-from, Note-from, All-from}
 use Rattle.peg.proofs.Rows.{rule-placed}
 use Rattle.peg.proofs.Fitting.{rule-fits, rule-idle}
 use Rattle.memo.specs.declared.row.Row.{Row}
-use Rattle.memo.specs.Rows.{outcome-from, note-from, recoveries-from, told-from}
+use Rattle.memo.specs.Rows.{told-from}
 use Rattle.reading.specs.Reads.{Setting, Fits, Outcome-within, Note-within, matches, label-of, place-of, noted, noted-place, noted-marks, row-of}
 use Rattle.reading.specs.Truth.{True-row, Proper}
 

@@ -2,27 +2,23 @@
 use mathlib.Core.Path.{_≡_, refl, sym, _∙_, ap, subst}
 use mathlib.Core.Bool.{Bool, true, false}
 use mathlib.Core.List.{List, [], _∷_, _++_}
-use mathlib.Core.Logic.{_⊎_, inl, inr, _↔_}
-use Prim.Native.Nat.{ℕ, zero, suc, _+_, _-_, _<_, _≤_}
+use mathlib.Core.Logic.{_⊎_, inl, inr}
+use Prim.Native.Nat.{ℕ, suc, _+_, _-_, _<_, _≤_}
 use native.Mathlib.Omega.{arith}
 use native.Mathlib.Decide.{decLt}
 use Rattle.std.specs.declared.option.Option.the-variants.{Some, None}
 use Rattle.std.specs.declared.result.Result.the-variants.{Ok, Err}
 use Rattle.grammar.specs.declared.expr.Mode.{Mode}
-use Rattle.grammar.specs.declared.expr.Mode.the-variants.{On, Off}
 use Rattle.grammar.specs.declared.expr.Expr.{Expr}
 use Rattle.grammar.specs.declared.expr.Expr.the-variants.{Empty, Terminal, Call, Sequence, Choice, Repetition, Predicate, Throw}
-use Rattle.grammar.specs.Form.{Refers, Recovers}
-use Rattle.peg.specs.declared.results.Outcome.the-variants.{Match, Failure}
+use Rattle.grammar.specs.Form.{Refers}
+use Rattle.peg.specs.declared.results.Outcome.the-variants.{Match}
 use Rattle.peg.specs.declared.results.Reading.{Reading}
 use Rattle.peg.specs.Results.{Rule-place, Given, told}
-use Rattle.peg.specs.Rules.{Gives, Rule-gives, of-rule}
+use Rattle.peg.specs.Rules.{Rule-gives, of-rule}
 use Rattle.peg.specs.Rules.{empty-matches, terminal-matches, terminal-fails, throw-fails, as-its-body}
-use Rattle.peg.specs.Halting.{Rule-halts}
 use Rattle.peg.specs.Halting.{too-deep}
 use Rattle.peg.specs.Members.{In}
-use Rattle.peg.specs.Counting.{learned}
-use Rattle.peg.specs.Known.{Known}
 use Rattle.peg.proofs.Halting.{some-depth, rule-deeper}
 use Rattle.peg.proofs.Totality.{within}
 use Rattle.peg.proofs.Walks.{recovery-low}
@@ -32,13 +28,10 @@ use Rattle.peg.proofs.Known.{nothing-fresh-halted}
 use Rattle.memo.specs.declared.row.Row.{Row}
 use Rattle.memo.specs.Tables.{Table, Puts, Same}
 use Rattle.memo.specs.Rows.{told-from}
-use Rattle.reading.specs.declared.refusal.Refusal.{Refusal}
 use Rattle.reading.specs.declared.refusal.Refusal.the-variants.{TooDeep}
-use Rattle.reading.specs.Reads.{Setting, Store, Res, Asked, expression, rule, Reads, Stores, each, read-terminal, row-of}
-use Rattle.reading.specs.Putting.{at, Held, put}
+use Rattle.reading.specs.Reads.{Setting, Store, Res, Asked, expression, rule, Reads, Stores, read-terminal, row-of}
+use Rattle.reading.specs.Putting.{at, put}
 use Rattle.reading.specs.Truth.{True-row, All-true, Proper, Known-asked, Comes, gives, halts, Rule-comes, rule-gives, rule-halts, Comes-to}
-use Rattle.reading.specs.Counts.{Held-in}
-use Rattle.reading.proofs.Once.{none}
 use Rattle.reading.proofs.Rows.{told-again, true-fits}
 use Rattle.reading.proofs.Changing.{Changes, nothing-put, unchanged, one-after-another, put-last}
 use Rattle.reading.proofs.Coming.{by-call, by-first-refused, by-first-failing, by-both, by-one-refused, by-staying, by-turning, by-part-refused, by-ending, by-part-failing, by-round, by-predicate, by-recovery, by-body-refused, comes-closes}

@@ -2,12 +2,9 @@
 use mathlib.Core.Path.{_≡_, refl, sym, _∙_, ap, subst}
 use mathlib.Core.Bool.{Bool}
 use mathlib.Core.List.{List}
-use mathlib.Core.Logic.{_⊎_, inl, inr, _↔_}
 use Prim.Native.Nat.{ℕ, _+_, _-_, _<_, _≤_}
 use native.Mathlib.Omega.{arith}
 use native.Mathlib.Decide.{decLe}
-use Rattle.std.specs.declared.option.Option.the-variants.{Some, None}
-use Rattle.std.specs.declared.result.Result.{Result}
 use Rattle.std.specs.declared.result.Result.the-variants.{Ok, Err}
 use Rattle.grammar.specs.declared.expr.Mode.{Mode}
 use Rattle.grammar.specs.declared.expr.Mode.the-variants.{On}
@@ -17,19 +14,16 @@ use Rattle.grammar.proofs.Referring.{accepted-whole, accepted-labels, accepted-
 use Rattle.text.specs.Meaning.{accepted}
 use Rattle.peg.specs.declared.results.Reading.{Reading}
 use Rattle.peg.specs.Results.{Rule-place, Given, told}
-use Rattle.peg.specs.Rules.{Gives, Rule-gives, Parses}
+use Rattle.peg.specs.Rules.{Parses}
 use Rattle.peg.specs.Rules.{as-its-body}
-use Rattle.peg.proofs.Rules.{one-rule}
 use Rattle.peg.proofs.Halting.{some-depth, deeper, rule-deeper}
 use Rattle.peg.proofs.Totality.{list-ends}
 use Rattle.memo.specs.Tables.{Table, Empty}
-use Rattle.reading.specs.declared.refusal.Refusal.{Refusal}
 use Rattle.reading.specs.declared.refusal.Refusal.the-variants.{Uncovered, Unfit, TooDeep}
-use Rattle.reading.specs.declared.reply.Answer.{Answer}
 use Rattle.reading.specs.declared.reply.Reply.{Reply}
-use Rattle.reading.specs.Reads.{Setting, Store, store, Res, Asked, expression, rule, Reads, setting}
+use Rattle.reading.specs.Reads.{Setting, Res, Asked, expression, rule, setting}
 use Rattle.reading.specs.Replies.{answer-of, Covers, Replies, uncovered, covered}
-use Rattle.reading.specs.Truth.{True-rows, All-true, Proper, Known-asked, Comes, gives, halts, Rule-comes, rule-gives, rule-halts, Comes-to, Asked-gives, Stands, Reply-stands, True-reading, Made-proper, Emptied}
+use Rattle.reading.specs.Truth.{True-rows, All-true, Proper, gives, halts, rule-gives, rule-halts, Comes-to, Asked-gives, Stands, Reply-stands, True-reading, Made-proper, Emptied}
 use Rattle.reading.proofs.Once.{none}
 use Rattle.reading.proofs.Coming.{comes-once, rule-once}
 use Rattle.reading.proofs.Standing.{stands}
@@ -88,6 +82,7 @@ module _ (G : Setting) where
       never-unfit = λ e. none (cc);
       answers = λ c. absurd (u c);
       too-deep = λ c. absurd (u c);
+      comes = λ c. absurd (u c);
       answered = λ x e. none (cc);
       rows = tr;
     }
@@ -99,6 +94,7 @@ module _ (G : Setting) where
       never-unfit = λ q. none (cc);
       answers = λ _ x y z. ap answer-of (s .answers x y (omega arith));
       too-deep = λ _ x y. (λ q. none (cc), λ z. none (let q = s .too-deep x y (omega arith) in cc));
+      comes = λ _. (Ok w, s .comes .0, s .comes .1, refl);
       answered = λ x q. (v, d, omega arith, sym q ∙ ap (λ o. answer-of (Ok o)) e);
       rows = s .rows;
     }
@@ -107,6 +103,7 @@ module _ (G : Setting) where
       never-unfit = λ q. none (cc);
       answers = λ _ x y l. ap answer-of (s .answers x y (omega arith));
       too-deep = λ _ x y. ((λ q. beyond x y (decLe (x .depth) (G .frames))), λ l. ap Err e);
+      comes = λ _. (Err z, s .comes .0, s .comes .1, refl);
       answered = λ x q. none (cc);
       rows = s .rows;
     }

@@ -4,4 +4,5 @@ pub mod Putting
 pub mod Once
 pub mod Truth
 pub mod Counts
+pub mod Runs
 pub mod Promises

@@ -2,7 +2,7 @@
 use mathlib.Core.Path.{_≡_}
 use mathlib.Core.Bool.{Bool, cond}
 use mathlib.Core.List.{List, [], _∷_, _++_}
-use Prim.Native.Nat.{ℕ, suc}
+use Prim.Native.Nat.{ℕ}
 use Rattle.std.specs.declared.option.Option.the-variants.{Some, None}
 use Rattle.grammar.specs.declared.expr.Mode.{Mode}
 use Rattle.peg.specs.Results.{Rule-place}
@@ -51,28 +51,28 @@ Gone = ℕ → ℕ → Mode → Bool
 abbrev pub Leaves : Gone → Table → ℕ → ℕ → Mode → Table → Type 0
 Leaves gone T k i m U = (k′ i′ : ℕ) (m′ : Mode) → (Same k′ i′ m′ k i m → ⊥) → U k′ i′ m′ ≡ cond (gone k′ i′ m′) None (T k′ i′ m′)
 
--- every put of a reading, from the n-th on and before the n′-th of all, drops the rows given for it
-abbrev pub Drops : (ℕ → Gone) → {G : Setting} {h i : ℕ} {T U : Store} {a : Asked} {m : Mode} {r : Res} → Reads G h T a i m r U → ℕ → ℕ → Type 0
-Drops gone (Reads.too-deep l) n n′ = n′ ≡ n
-Drops gone (Reads.empty l q) n n′ = n′ ≡ n
-Drops gone (Reads.terminal l q) n n′ = n′ ≡ n
-Drops gone (Reads.call l q d) n n′ = Drops gone d n n′
-Drops gone (Reads.sequence-refused l q d) n n′ = Drops gone d n n′
-Drops gone (Reads.sequence-fails l q d o) n n′ = Drops gone d n n′
-Drops gone (Reads.sequence-goes-on l q d o e) n n′ = (c : ℕ) × Drops gone d n c × Drops gone e c n′
-Drops gone (Reads.choice-refused l q d) n n′ = Drops gone d n n′
-Drops gone (Reads.choice-stays l q d o) n n′ = Drops gone d n n′
-Drops gone (Reads.choice-turns l q d o e) n n′ = (c : ℕ) × Drops gone d n c × Drops gone e c n′
-Drops gone (Reads.repetition-refused l q d) n n′ = Drops gone d n n′
-Drops gone (Reads.repetition-ends l q d o) n n′ = Drops gone d n n′
-Drops gone (Reads.repetition-fails l q d o) n n′ = Drops gone d n n′
-Drops gone (Reads.repetition-goes-on l q d o e) n n′ = (c : ℕ) × Drops gone d n c × Drops gone e c n′
-Drops gone (Reads.predicate l q d) n n′ = Drops gone d n n′
-Drops gone (Reads.throw-fails l q p) n n′ = n′ ≡ n
-Drops gone (Reads.throw-recovers l q p d) n n′ = Drops gone d n n′
-Drops gone (Reads.row-unfit f u) n n′ = n′ ≡ n
-Drops gone (Reads.row-too-deep f u l) n n′ = n′ ≡ n
-Drops gone (Reads.row-stands f u l) n n′ = n′ ≡ n
-Drops gone (Reads.body-refused f d) n n′ = Drops gone d n n′
-Drops gone (Reads.body-gives {k = k} {i = i} {U = U} {W = W} {m = m} f d s) n n′ =
-    (c : ℕ) × Drops gone d n c × Leaves (gone c) (U .rows) k i m (W .rows) × (n′ ≡ suc c)
+-- the puts of a reading, in their order, drop the rows of the keys that the list gs gives for them, one entry a put; gs′ is the rest of it
+abbrev pub Drops : {G : Setting} {h i : ℕ} {T U : Store} {a : Asked} {m : Mode} {r : Res} → Reads G h T a i m r U → List Gone → List Gone → Type 0
+Drops (Reads.too-deep l) gs gs′ = gs′ ≡ gs
+Drops (Reads.empty l q) gs gs′ = gs′ ≡ gs
+Drops (Reads.terminal l q) gs gs′ = gs′ ≡ gs
+Drops (Reads.call l q d) gs gs′ = Drops d gs gs′
+Drops (Reads.sequence-refused l q d) gs gs′ = Drops d gs gs′
+Drops (Reads.sequence-fails l q d o) gs gs′ = Drops d gs gs′
+Drops (Reads.sequence-goes-on l q d o e) gs gs′ = (hs : List Gone) × Drops d gs hs × Drops e hs gs′
+Drops (Reads.choice-refused l q d) gs gs′ = Drops d gs gs′
+Drops (Reads.choice-stays l q d o) gs gs′ = Drops d gs gs′
+Drops (Reads.choice-turns l q d o e) gs gs′ = (hs : List Gone) × Drops d gs hs × Drops e hs gs′
+Drops (Reads.repetition-refused l q d) gs gs′ = Drops d gs gs′
+Drops (Reads.repetition-ends l q d o) gs gs′ = Drops d gs gs′
+Drops (Reads.repetition-fails l q d o) gs gs′ = Drops d gs gs′
+Drops (Reads.repetition-goes-on l q d o e) gs gs′ = (hs : List Gone) × Drops d gs hs × Drops e hs gs′
+Drops (Reads.predicate l q d) gs gs′ = Drops d gs gs′
+Drops (Reads.throw-fails l q p) gs gs′ = gs′ ≡ gs
+Drops (Reads.throw-recovers l q p d) gs gs′ = Drops d gs gs′
+Drops (Reads.row-unfit f u) gs gs′ = gs′ ≡ gs
+Drops (Reads.row-too-deep f u l) gs gs′ = gs′ ≡ gs
+Drops (Reads.row-stands f u l) gs gs′ = gs′ ≡ gs
+Drops (Reads.body-refused f d) gs gs′ = Drops d gs gs′
+Drops (Reads.body-gives {k = k} {i = i} {U = U} {W = W} {m = m} f d s) gs gs′ =
+    (gone : Gone) × Drops d gs (gone ∷ gs′) × Leaves gone (U .rows) k i m (W .rows)

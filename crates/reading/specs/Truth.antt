@@ -7,6 +7,7 @@ use Prim.Native.Nat.{ℕ, _+_, _-_, _<_, _≤_}
 use Rattle.std.specs.declared.option.Option.the-variants.{Some}
 use Rattle.std.specs.declared.result.Result.the-variants.{Ok, Err}
 use Rattle.grammar.specs.declared.expr.Mode.{Mode}
+use Rattle.grammar.specs.declared.expr.Mode.the-variants.{On}
 use Rattle.grammar.specs.declared.expr.Expr.{Expr}
 use Rattle.grammar.specs.Words.{Peg, meaning}
 use Rattle.grammar.specs.Questions.{Accepted}
@@ -93,6 +94,8 @@ pub record Reply-stands (G : Setting) (capacity : ℕ) (q : Reply) (U : Table) :
   -- else the derived answer, or 10 exactly if the derivation is deeper than the frames
   pub answers : Covers G capacity → (v : Given) → Parses (G .grammar) (G .text) v → v .depth ≤ G .frames → q .result ≡ answer-of (Ok (told v))
   pub too-deep : Covers G capacity → (v : Given) → Parses (G .grammar) (G .text) v → (q .result ≡ Err TooDeep) ↔ (G .frames < v .depth)
+  -- in any case what the rules alone come to
+  pub comes : Covers G capacity → (s : Res) × (zs : List Rule-place) × Comes-to G 0 (rule 0) 0 On s zs × (q .result ≡ answer-of s)
   pub answered : (x : Answer) → q .result ≡ Ok x → (v : Given) × Parses (G .grammar) (G .text) v × (v .depth ≤ G .frames) × (Ok x ≡ answer-of (Ok (told v)))
   pub rows : All-true G U
 

@@ -5,6 +5,7 @@
 ghost use Rattle.reading.specs.Once.{At-most-one};
 ghost use Rattle.reading.specs.Truth.{True-reading, Made-proper, Emptied};
 ghost use Rattle.reading.specs.Counts.{Counts};
+ghost use Rattle.reading.specs.Runs.{Shifted, Steps};
 
 pub mod refusal;
 pub mod reply;
@@ -40,6 +41,20 @@ pub fn emptied_memory_answers_what_is_derived<E>() -> u8
 /// The rows put are at least the rule-places completed and not known; over a memory that keeps all, exactly these, each once.
 pub fn rows_put_are_the_fresh_ones() -> u8
     ensures { λ _. ⌜ Counts ⌝ }
+{
+    0
+}
+
+/// Rows kept or moved by a shift are true over the changed text, and held within what the settle rule keeps; just these over a memory that forgets nothing.
+pub fn shifts_keep_rows_true<E>() -> u8
+    ensures { λ _. ⌜ Shifted E ⌝ }
+{
+    0
+}
+
+/// Over every run, rows are true, held rule-places known, and known ones derived and closed: each parse, shift and empty keeps it so.
+pub fn runs_keep_rows_true<E>() -> u8
+    ensures { λ _. ⌜ Steps E ⌝ }
 {
     0
 }
