@@ -2,3 +2,4 @@ pub mod Runs
 pub mod Law
 pub mod Slips
 pub mod Calls
+pub mod Tour
