@@ -1,4 +1,6 @@
 //! The bench: a text with a memory and an accepted grammar, and the law over every run of its calls.
+#![tactic(auto)]
+
 ghost use Rattle.std.specs.Prelude.{true, false};
 ghost use Rattle.bench.specs.Law.{Law};
 ghost use Rattle.bench.specs.Tour.{Toured};

@@ -1,4 +1,5 @@
 //! Evaluation with a memory and an explicit stack: one text of code for every element kind and every memory.
+#![tactic(auto)]
 
 mod enter;
 mod find;

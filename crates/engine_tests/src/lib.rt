@@ -1,4 +1,5 @@
 //! Rows put into a memory by hand, and the readings that find them: which stand, and which are refused.
+#![tactic(auto)]
 
 #[cfg(test)]
 mod tests {

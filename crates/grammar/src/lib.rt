@@ -1,4 +1,5 @@
 //! Grammars as rows of 32-bit words: their format, their check, and what they mean.
+#![tactic(auto)]
 
 pub mod accepted;
 pub mod expr;

@@ -1,4 +1,6 @@
 //! Examples at the edges of each question of the grammar check.
+#![tactic(auto)]
+
 use grammar::accepted::{Grammar, check};
 use grammar::fault::Place;
 use std::alloc::{AllocError, Global};

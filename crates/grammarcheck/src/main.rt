@@ -1,4 +1,6 @@
 //! Reads rows of words from standard input, one row a line, and prints what the check of grammars says of each.
+#![tactic(auto)]
+
 use rowtext::account::account;
 use std::io;
 use std::io::{Read, Write};

@@ -1,4 +1,5 @@
 //! Memories: what rules gave at places, kept from parse to parse, and forgotten where an edit touches it.
+#![tactic(auto)]
 
 mod cells;
 mod entries;

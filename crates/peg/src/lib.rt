@@ -1,6 +1,7 @@
 //! The rules: what an expression of a grammar gives at a place of a text, and the theorems that everything rests on.
 //!
 //! Each function below is a theorem: its contract is the statement, and its answer says nothing.
+#![tactic(auto)]
 
 ghost use Rattle.peg.specs.Rules.{AtMostOne, Calls};
 ghost use Rattle.peg.specs.Halting.{Frames};

@@ -1,6 +1,7 @@
 //! Reading with a memory: what it is, and the theorems that tie it to the rules.
 //!
 //! Each function below is a theorem: its contract is the statement, and its answer says nothing.
+#![tactic(auto)]
 
 ghost use Rattle.reading.specs.Once.{AtMostOne};
 ghost use Rattle.reading.specs.Truth.{TrueReading, MadeProper, Emptied};

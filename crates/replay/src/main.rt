@@ -1,4 +1,5 @@
 //! Runs a keypad session again: one command a line on standard input, one line of answer each.
+#![tactic(auto)]
 
 mod command;
 mod fields;

@@ -1,4 +1,5 @@
 //! Replies and refusals as text: what a display shows of them.
+#![tactic(auto)]
 
 pub mod marks;
 pub mod refusal;

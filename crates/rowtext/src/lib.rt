@@ -1,4 +1,5 @@
 //! Rows of words as text: reading them, and writing what the check of a grammar says of them.
+#![tactic(auto)]
 
 pub mod account;
 pub mod answer;

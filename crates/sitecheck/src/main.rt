@@ -1,4 +1,6 @@
 //! Reads a site file from standard input, and prints the line that a display shows of it.
+#![tactic(auto)]
+
 use sitefile::site_line;
 use std::io;
 use std::io::{Read, Write};

@@ -1,4 +1,6 @@
 //! Site files: their grammar, and the line that a display shows of one.
+#![tactic(auto)]
+
 ghost use Rattle.std.specs.Prelude.{◌≡◌, ◌≤◌, length, take, IfOk, string_bytes};
 ghost use Rattle.text.specs.Buffers.{buffer_room, buffer_text};
 ghost use Rattle.sitefile.specs.Lines.{most_bytes, Shows, SoleReply};

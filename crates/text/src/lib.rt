@@ -1,4 +1,6 @@
 //! Texts: what can be read, what can be changed, and the three texts in lent buffers.
+#![tactic(auto)]
+
 ghost use Rattle.std.specs.Prelude.{◌≡◌, ℕ, ◌≤◌, Bool, List, length, MatchResult, OnOk};
 ghost use Rattle.text.specs.Meaning.{accepted, replaced};
 ghost use Rattle.text.specs.Refusals.{BufferExactly, CountExactly, RangeExactly, RoomExactly};

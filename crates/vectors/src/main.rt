@@ -1,6 +1,7 @@
 //! Reads cases from standard input, a grammar, a text and a number of frames on each line, and prints what each gives.
 //!
 //! A line that opens with # is a heading, and is printed as it is.
+#![tactic(auto)]
 
 mod case;
 mod shown;
