@@ -1,5 +1,5 @@
 -- The law holds: what is so of rows and known rule-places stays so over a run, and gives the answer.
-use Rattle.std.proofs.Common.{◌≡◌, ℕ, ◌+◌, ◌-◌, ◌*◌, ◌<◌, ◌≤◌, Bool, true, List, length, Ok, Err, sym, refl, ap, ◌∙◌, subst, inl, inr, mul-le-mul_right, arith}
+use Rattle.std.proofs.Common.{◌≡◌, ℕ, ◌+◌, ◌-◌, ◌*◌, ◌<◌, ◌≤◌, Bool, true, List, [], ◌∷◌, length, Ok, Err, sym, refl, ap, ◌∙◌, subst, inl, inr, mul-le-mul_right, arith}
 use native.Mathlib.Decide.{dec_le}
 use Rattle.grammar.specs.declared.expr.Mode.TheVariants.{On}
 use Rattle.grammar.specs.Words.{meaning}
@@ -17,20 +17,19 @@ use Rattle.peg.proofs.Totality.{total, list_ends}
 use Rattle.peg.proofs.Counting.{counting}
 use Rattle.peg.proofs.Completing.{completes_among}
 use Rattle.memo.specs.Tables.{Table, Empty, Shifts}
-use Rattle.reading.specs.declared.refusal.Refusal.TheVariants.{TooDeep}
+use Rattle.reading.specs.declared.refusal.Refusal.TheVariants.{Uncovered, TooDeep}
 use Rattle.reading.specs.declared.reply.Reply.{Reply}
 use Rattle.reading.specs.Reads.{Setting, Res, rule, most_fresh}
-use Rattle.reading.specs.Replies.{RefusedBy, Replies, uncovered, covered}
+use Rattle.reading.specs.Replies.{answer_of, Replies, uncovered, covered}
 use Rattle.reading.specs.Truth.{Proper, ComesTo, RuleComes, rule_gives, rule_halts, ReplyStands}
 use Rattle.reading.specs.Counts.{ReplyCounted}
 use Rattle.reading.specs.Runs.{Bounds, parse_of, Covering, Tracks}
 use Rattle.reading.proofs.Once.{none}
-use Rattle.reading.proofs.Numbers.{of_number}
 use Rattle.reading.proofs.Truth.{reply_stands, proper, some_rule, none_false}
 use Rattle.reading.proofs.Counts.{reply_counted}
 use Rattle.reading.proofs.Steps.{steps}
 use Rattle.bench.specs.Runs.{State, settled, slip_out, Change, made, Changeable, Run, opened, changed, change_refused, shifted, parsed, parse_uncovered, cleared}
-use Rattle.bench.specs.Law.{Law}
+use Rattle.bench.specs.Law.{Lawful, Law}
 
 -- at the root all frames are left
 all_left : {E : Type 0} (fits : ℕ → ℕ → E → Bool) (b : Bounds) (ws : List ℕ) (xs : List E) (frames : ℕ) (s : Res) (zs : List RulePlace)
@@ -107,8 +106,8 @@ module _ {E : Type 0} (fits : ℕ → ℕ → E → Bool) (b : Bounds) (ws : Lis
     answer : {U : Table} {q : Reply} → Replies G b.capacity T q U → ReplyStands G b.capacity q U
     answer d = reply_stands G b.capacity right (some_rule ws ok) (stays run).rows d
 
-    deep_enough : {U : Table} {q : Reply} → Replies G b.capacity T q U → deepest (meaning ws) (length xs) ≤ frames → RefusedBy 10 q → ⊥
-    deep_enough (uncovered u) l e = omega arith
+    deep_enough : {U : Table} {q : Reply} → Replies G b.capacity T q U → deepest (meaning ws) (length xs) ≤ frames → q.result ≡ Err TooDeep → ⊥
+    deep_enough (uncovered u) l e = none (cc)
     deep_enough (covered c d) l e =
         let x = (answer (covered c d)).answers c one.0 one.1 (let y = one.2 in omega arith) in
         let y = ((answer (covered c d)).too_deep c one.0 one.1).0 e in
@@ -118,8 +117,7 @@ module _ {E : Type 0} (fits : ℕ → ℕ → E → Bool) (b : Bounds) (ws : Lis
     -- two answers over true rows are the same
     both : {U U' : Table} {q p : Reply} → Covering (meaning ws) b → ReplyStands G b.capacity q U → ReplyStands G b.capacity p U' → Dec (one.0.depth ≤ frames) → q.result ≡ p.result
     both c x y (yes l) = x.answers c one.0 one.1 l ∙ sym (y.answers c one.0 one.1 l)
-    both {q = q} {p = p} c x y (no l) =
-        of_number q.result TooDeep ((x.too_deep c one.0 one.1).1 (omega arith)) ∙ sym (of_number p.result TooDeep ((y.too_deep c one.0 one.1).1 (omega arith)))
+    both c x y (no l) = (x.too_deep c one.0 one.1).1 (omega arith) ∙ sym ((y.too_deep c one.0 one.1).1 (omega arith))
 
     as_emptied : {T' U U' : Table} {q p : Reply} → Empty T' → Replies G b.capacity T q U → Replies G b.capacity T' p U' → q.result ≡ p.result
     as_emptied e (uncovered u) (uncovered v) = refl

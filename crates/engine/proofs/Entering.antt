@@ -1,26 +1,31 @@
 -- An expression is entered: it gives at once, or is opened with its first part; each kind by one rule of `Reads`.
-use Rattle.std.proofs.Common.{◌≡◌, ℕ, ◌+◌, ◌<◌, ◌≤◌, Bool, true, false, Some, None, Ok, Err, sym, refl, subst, subst₂, arith}
+use Rattle.std.proofs.Common.{◌≡◌, ℕ, zero, suc, ◌+◌, ◌<◌, ◌≤◌, Bool, true, false, Some, None, Ok, Err, Option, sym, refl, ap, ◌∙◌, subst, subst₂, arith}
 use mathlib.Core.Logic.{∥∥₁_map}
 use Rattle.grammar.specs.declared.expr.Mode.{Mode}
 use Rattle.grammar.specs.declared.expr.Mode.TheVariants.{On, Off}
 use Rattle.grammar.specs.declared.expr.Expr.{Expr}
 use Rattle.grammar.specs.declared.expr.Expr.TheVariants.{Empty, Terminal, Call, Sequence, Choice, Repetition, Predicate, Throw}
+use Rattle.grammar.specs.Words.{Peg}
 use Rattle.grammar.specs.Form.{recovers_lem, Nullable, Refers, by_empty, by_call}
-use Rattle.grammar.proofs.Settling.{recovery_low}
 use Rattle.peg.specs.declared.results.Outcome.TheVariants.{Match, Failure}
 use Rattle.peg.specs.declared.results.Reading.{Reading}
 use Rattle.peg.specs.Rules.{unmarked}
 use Rattle.peg.specs.Readings.{read_alone, read_deeper, read_predicate, read_recovery}
+use Rattle.memo.specs.declared.row.Row.{Row}
+use Rattle.memo.specs.Rows.{told_from}
 use Rattle.reading.specs.declared.refusal.Refusal.{Refusal}
-use Rattle.engine.specs.declared.step.Ask.{Ask}
-use Rattle.engine.specs.declared.step.Move.{Move}
+use Rattle.engine.specs.declared.frame.Frame.{Frame}
 use Rattle.engine.specs.Frames.{mode_by, mode_number, fresh_frame}
 use Rattle.reading.specs.Reads.{Setting, Store, Res, expression, rule, each, read_terminal, Fits, Reads}
-use Rattle.engine.specs.Machine.{Sane, Called, First, One, Round, Last, ResumeAs, AwaitsAs, digit_as, Ahead, Sound, Opened, opens_with, Entered}
+use Rattle.engine.specs.Machine.{Sane, Called, First, One, Round, Last, ResumeAs, AwaitsAs, digit_as, Ahead, Sound, Opened}
 
 pub mode_back : (m : Mode) → mode_by (mode_number m) ≡ m
 mode_back On = refl
 mode_back Off = refl
+
+recovers_on : (g : Peg) (l e : ℕ) (m : Mode) → recovers_lem g l m ≡ Some e → g.recovery l ≡ Some e
+recovers_on g l e On p = p
+recovers_on g l e Off p = let z : ◌≡◌ {A = ℕ} 0 1 = cc in absurd (omega arith)
 
 module _ (G : Setting) (sane : Sane G) (T : Store) (h e i : ℕ) (m : Mode) (level : h < G.frames) (known : e < G.grammar.N) (place : i ≤ G.size) where
   refers : (x : Expr) → G.grammar.expr e ≡ x → Refers G.grammar x
@@ -89,7 +94,7 @@ module _ (G : Setting) (sane : Sane G) (T : Store) (h e i : ℕ) (m : Mode) (lev
   throw_back p q reads Last.gives = Reads.throw_recovers level p q reads
 
   pub open_throw : (l a : ℕ) → G.grammar.expr e ≡ Throw l → recovers_lem G.grammar l m ≡ Some a → Opened G T h e i m (fresh_frame e i m) a i On
-  open_throw l a p q = opens (Throw l) a On p (recovery_low G.grammar l m a (refers (Throw l) p) q) (q, refl, refl) (omega arith) (λ r U r2 W reads o. throw_back p q reads o)
+  open_throw l a p q = opens (Throw l) a On p (refers (Throw l) p a (recovers_on G.grammar l a m q)) (q, refl, refl) (omega arith) (λ r U r2 W reads o. throw_back p q reads o)
 
   call_back : {k : ℕ} {r r2 : Res} {U W : Store} → G.grammar.expr e ≡ Call k → T.rows k i m ≡ None → Reads G (h + 1) T (expression (G.grammar.body k)) i m r U → Called G k i m r U r2 W → Reads G h T (expression e) i m r2 W
   call_back p none reads Called.refused = Reads.call level p (Reads.body_refused none reads)
@@ -153,11 +158,12 @@ module _ (G : Setting) (sane : Sane G) (T : Store) (h e i : ℕ) (m : Mode) (lev
   refuse_found k z p reads = Reads.call level p reads
 
 -- what the code makes is what the lemmas speak of
-pub opened_as : (G : Setting) (T : Store) (h : ℕ) (q : Ask) (a b : ℕ) (o : Mode) (x : Move) → x ≡ opens_with q a o → a ≡ b
-    → Opened G T h q.part q.place q.mode (fresh_frame q.part q.place q.mode) b q.place o → Entered G T h q.part q.place q.mode (Ok x)
-opened_as G T h q a b o x p s w =
-    subst (λ (y : Move). Entered G T h q.part q.place q.mode (Ok y)) (sym p)
-    (subst (λ (k : ℕ). Opened G T h q.part q.place q.mode (fresh_frame q.part q.place q.mode) k q.place o) (sym s) w)
+module _ (G : Setting) (T : Store) (h e i : ℕ) (m : Mode) where
+  pub opened_as : (a j : ℕ) (o : Mode) (f x : Frame) → f ≡ x → Opened G T h e i m x a j o → Opened G T h e i m f a j o
+  opened_as a j o f x p w = subst (λ (y : Frame). Opened G T h e i m y a j o) (sym p) w
 
-pub given_as : (G : Setting) (T : Store) (h e i : ℕ) (m : Mode) (x y : Reading) → x ≡ y → Sound G h e i m y × Reads G h T (expression e) i m (Ok y) T → Sound G h e i m x × Reads G h T (expression e) i m (Ok x) T
-given_as G T h e i m x y p w = subst (λ (z : Reading). Sound G h e i m z × Reads G h T (expression e) i m (Ok z) T) (sym p) w
+  pub part_as : (f : Frame) (a b j : ℕ) (o : Mode) → a ≡ b → Opened G T h e i m f b j o → Opened G T h e i m f a j o
+  part_as f a b j o p w = subst (λ (y : ℕ). Opened G T h e i m f y j o) (sym p) w
+
+  pub given_as : (x y : Reading) → x ≡ y → Sound G h e i m y × Reads G h T (expression e) i m (Ok y) T → Sound G h e i m x × Reads G h T (expression e) i m (Ok x) T
+  given_as x y p w = subst (λ (z : Reading). Sound G h e i m z × Reads G h T (expression e) i m (Ok z) T) (sym p) w

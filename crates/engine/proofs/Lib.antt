@@ -1,4 +1,3 @@
-pub mod Kept
 pub mod Turns
 pub mod Entering
 pub mod Finding

@@ -1,14 +1,15 @@
 -- A frame is handed what its part gave: each kind goes on as its relation says.
-use Rattle.std.proofs.Common.{◌≡◌, ℕ, zero, suc, ◌+◌, ◌-◌, ◌<◌, ◌≤◌, min, max, Bool, true, false, cond, eqb, Some, None, Ok, Err, Option, sym, refl, ap, ◌∙◌, subst, subst₂, arith}
+use Rattle.std.proofs.Common.{◌≡◌, ℕ, zero, suc, ◌+◌, ◌-◌, ◌<◌, ◌≤◌, min, max, Bool, true, false, cond, eqb, ◌≢◌, ◌⊎◌, Some, None, Ok, Err, Option, sym, refl, ap, ◌∙◌, subst, ap₂, subst₂, inl, inr, arith}
 use mathlib.Core.HLevel.{⊥_prop}
 use mathlib.Core.Logic.{∥∥₁_map, ∥∥₁_map₂, ∥∥₁_elim}
 use Prim.Native.Nat.{compare, Ordering}
+use Rattle.std.proofs.lemmas.Bool.{cases_eq}
 use Rattle.grammar.specs.declared.expr.Mode.{Mode}
-use Rattle.grammar.specs.declared.expr.Mode.TheVariants.{On}
+use Rattle.grammar.specs.declared.expr.Mode.TheVariants.{On, Off}
 use Rattle.grammar.specs.declared.expr.Expr.{Expr}
-use Rattle.grammar.specs.declared.expr.Expr.TheVariants.{Call, Sequence, Choice, Repetition, Predicate, Throw}
+use Rattle.grammar.specs.declared.expr.Expr.TheVariants.{Empty, Terminal, Call, Sequence, Choice, Repetition, Predicate, Throw}
 use Rattle.grammar.specs.Words.{Peg}
-use Rattle.grammar.specs.Form.{Nullable, Refers, by_repetition, by_predicate, by_call, by_sequence, by_first, by_second, by_recovery}
+use Rattle.grammar.specs.Form.{recovers_lem, Nullable, Refers, by_repetition, by_predicate, by_call, by_sequence, by_first, by_second, by_recovery}
 use Rattle.peg.specs.declared.results.Outcome.{Outcome}
 use Rattle.peg.specs.declared.results.Outcome.TheVariants.{Match, Failure}
 use Rattle.peg.specs.declared.results.Note.{Note}
@@ -16,14 +17,14 @@ use Rattle.peg.specs.declared.results.Recoveries.{Recoveries}
 use Rattle.peg.specs.declared.results.Reading.{Reading}
 use Rattle.peg.specs.Rules.{join, farther, caught, denied, denied_note, unmarked}
 use Rattle.peg.specs.Summaries.{added}
-use Rattle.peg.specs.Readings.{matched_only, read_deeper, read_sequence, read_other, read_end, read_round, read_predicate, read_recovery}
+use Rattle.peg.specs.Readings.{no_recoveries, matched_only, read_deeper, read_sequence, read_other, read_end, read_round, read_predicate, read_recovery}
 use Rattle.peg.proofs.Readings.{readings}
 use Rattle.memo.specs.declared.row.Row.{Row}
 use Rattle.memo.specs.Tables.{Puts}
 use Rattle.engine.specs.declared.frame.Frame.{Frame}
-use Rattle.engine.specs.Frames.{mode_by, note_by, noted_number, noted_at, so_far, going_on}
-use Rattle.reading.specs.Reads.{Setting, Store, Res, expression, each, row_of, noted_marks, most_fresh, NoteWithin, Stores, Reads}
-use Rattle.engine.specs.Machine.{Sane, joined, rounds, read_unmatched, finish, Called, First, One, Round, Last, ResumeAs, Resume, Ahead, Sound, AwaitsAs, digit_as, Continued, Awaiting, Handed}
+use Rattle.engine.specs.Frames.{mode_by, note_by, noted_number, noted_at, noted_marks, so_far, going_on}
+use Rattle.reading.specs.Reads.{Setting, Store, Res, expression, each, row_of, place_of, most_fresh, NoteWithin, Stores, Reads}
+use Rattle.engine.specs.Machine.{Sane, joined, rounds, read_unmatched, finish, Called, First, One, Round, Last, ResumeAs, Resume, Ahead, Sound, Awaits, AwaitsAs, digit_as, Continued, Awaiting, Handed, Shallow, Fine}
 
 clash : {A : Type 0} {o : Outcome} {j l p : ℕ} → o ≡ Match j → o ≡ Failure l p → A
 clash p q = let z : ◌≡◌ {A = ℕ} 0 1 = cc in absurd (omega arith)
@@ -124,6 +125,9 @@ module _ (G : Setting) (sane : Sane G) (T : Store) (h : ℕ) (f : Frame) (v : Re
 
   refers : (x : Expr) → G.grammar.expr f.expression ≡ x → Refers G.grammar x
   refers x p = subst (Refers G.grammar) p (sane.whole.1 f.expression w.awaits.known)
+
+  pub no_leaf : (x : Expr) → G.grammar.expr f.expression ≡ x → AwaitsAs G f (mode_by f.mode) x f.stage w.part w.place w.mode
+  no_leaf x p = waits x f.stage p refl
 
   level : h < G.frames
   level = let l = w.sound.level in omega arith
@@ -449,7 +453,36 @@ stores_as G T U k i m x {keeps} {P} {Q} o y a b c p q puts counts = record {
 
 -- what the code needs of numbers, from some setting in which the frame waits
 
+ahead_place : (i n : ℕ) (o : Outcome) → n ≤ 65535 → Ahead i n o → place_of o ≤ 65535
+ahead_place i n (Match j) s a = let h = a.1 in omega arith
+ahead_place i n (Failure l p) s a = omega arith
+
+note_small : (n : ℕ) (x : Option Note) → n ≤ 65535 → NoteWithin n x → NoteWithin 65535 x
+note_small n None s h = tt
+note_small n (Some x) s h = omega arith
+
 module _ (g : Peg) (h : ℕ) (f : Frame) (v : Reading) (w : Handed g h f v) where
+  pub handed_shallow : Shallow f v
+  handed_shallow =
+      let a = w.awaiting.awaits.level in
+      let b = w.awaiting.sound.level in
+      let c = w.small in
+      (omega arith, omega arith)
+
+  pub handed_fine : Fine v
+  handed_fine =
+      let s = w.awaiting.sound in
+      let n = w.sane.small in
+      record {
+        outcome = ahead_place w.awaiting.place w.setting.size v.outcome n s.outcome;
+        note = note_small w.setting.size v.note n s.note;
+        first = let a = s.first in omega arith;
+        reach = let a = s.reach in omega arith;
+      }
+
+  pub handed_leaf : (x : Expr) → g.expr f.expression ≡ x → AwaitsAs w.setting f (mode_by f.mode) x f.stage w.awaiting.part w.awaiting.place w.awaiting.mode
+  handed_leaf x p = no_leaf w.setting w.sane (record { rows = λ r i m. None; fresh = 0 }) h f v w.awaiting x (ap (λ (y : Peg). y.expr f.expression) w.of ∙ p)
+
   pub handed_label : (l : ℕ) → g.expr f.expression ≡ Throw l → l < 256
   handed_label l p = w.sane.labels f.expression l w.awaiting.awaits.known (ap (λ (y : Peg). y.expr f.expression) w.of ∙ p)
 

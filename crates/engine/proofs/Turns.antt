@@ -1,22 +1,21 @@
 -- Each turn of the engine keeps what has to be kept, and its measure falls. No kind of expression is looked at here.
-use Rattle.std.proofs.Common.{◌≡◌, ℕ, zero, suc, ◌+◌, ◌-◌, ◌*◌, ◌^◌, ◌<◌, ◌≤◌, Bool, ◌≢◌, List, [], ◌∷◌, length, get_or, set, Ok, Err, Result, sym, refl, ap, ◌∙◌, subst, ap₂, subst₂, mul-le-mul_right, add-mul, one-mul, add-one, arith, get_or-set_other, get_or-set_same}
+use Rattle.std.proofs.Common.{◌≡◌, ℕ, zero, suc, ◌+◌, ◌-◌, ◌*◌, ◌^◌, ◌<◌, ◌≤◌, max, Bool, ◌≢◌, List, [], ◌∷◌, length, get_or, set, Ok, Err, Result, sym, refl, ap, ◌∙◌, subst, ap₂, subst₂, zero-le, mul-le-mul_right, add-mul, one-mul, add-one, arith, get_or-set_other, get_or-set_same}
 use Rattle.grammar.specs.Words.{Peg}
 use native.Mathlib.Nat.{pow-succ', one-le-pow}
 use Rattle.grammar.specs.declared.expr.Mode.{Mode}
+use Rattle.grammar.specs.declared.expr.Mode.TheVariants.{On}
 use Rattle.grammar.specs.declared.expr.Expr.{Expr}
 use Rattle.grammar.specs.declared.expr.Expr.TheVariants.{Empty, Terminal, Call, Sequence, Choice, Repetition, Predicate, Throw}
 use Rattle.peg.specs.declared.results.Reading.{Reading}
 use Rattle.reading.specs.declared.refusal.Refusal.{Refusal}
 use Rattle.engine.specs.declared.frame.Frame.{Frame}
-use Rattle.engine.specs.declared.step.Ask.{Ask}
 use Rattle.engine.specs.declared.step.Move.{Move}
 use Rattle.engine.specs.declared.step.Move.TheVariants.{Open, Give}
 use Rattle.engine.specs.declared.step.Control.{Control}
 use Rattle.engine.specs.declared.step.Control.TheVariants.{Evaluate, Return}
-use Rattle.engine.specs.Frames.{blank, mode_by}
+use Rattle.engine.specs.Frames.{blank, mode_by, stack}
 use Rattle.reading.specs.Reads.{Setting, setting, Store, Res, expression, Reads}
-use Rattle.engine.specs.Machine.{Called, First, One, Round, Last, ResumeAs, Resume, digit_as, digit, Sound, Opened, Entered, Continued, Resumed, frames_after, open_after, comes_next, Room, Awaiting}
-use Rattle.engine.proofs.Kept.{stack, Answers, Chain, In, Out, Going, weight, left}
+use Rattle.engine.specs.Machine.{Called, First, One, Round, Last, ResumeAs, Resume, digit_as, digit, Sound, Opened, Entered, Continued, Awaiting, Answers, Chain, In, Out, Going, weight, left}
 
 -- the stack of frames
 
@@ -162,34 +161,33 @@ module _ (G : Setting) (Goal : Res → Store → Type 0) (T : Store) (fs : List 
   long : length (stack fs h) ≡ h
   long = length_stack fs h
 
-  entering : (q : Ask) → x ≡ Evaluate q → In G Goal T (stack fs h) q.part q.place q.mode
-  entering q p = subst (Going G Goal T (stack fs h)) p n
+  entering : (e i : ℕ) (m : Mode) → x ≡ Evaluate e i m → In G Goal T (stack fs h) e i m
+  entering e i m p = subst (Going G Goal T (stack fs h)) p n
 
-  pub entered_refused : (q : Ask) (z : Refusal) → x ≡ Evaluate q → Reads G h T (expression q.part) q.place q.mode (Err z) T → Goal (Err z) T
-  entered_refused q z p reads = in_refused G Goal (entering q p) (subst (λ (k : ℕ). Reads G k T (expression q.part) q.place q.mode (Err z) T) (sym long) reads)
+  pub entered_known : (e i : ℕ) (m : Mode) → x ≡ Evaluate e i m → (e < G.grammar.N) × (i ≤ G.size)
+  entered_known e i m p = ((entering e i m p).known, (entering e i m p).place)
 
-  pub entered_room : (q : Ask) (s : Move) → Entered G T h q.part q.place q.mode (Ok s) → Room (length fs) h s
-  entered_room q (Open f a) w = omega (arith, fit, w.level)
-  entered_room q (Give v) o = tt
+  pub entered_refused : (e i : ℕ) (m : Mode) (z : Refusal) → x ≡ Evaluate e i m → Reads G h T (expression e) i m (Err z) T → Goal (Err z) T
+  entered_refused e i m z p reads = in_refused G Goal (entering e i m p) (subst (λ (k : ℕ). Reads G k T (expression e) i m (Err z) T) (sym long) reads)
 
-  pub entered_goes : (q : Ask) (s : Move) → x ≡ Evaluate q → Entered G T h q.part q.place q.mode (Ok s) → h ≤ G.frames
-      → (open_after h s ≤ G.frames) × Going G Goal T (stack (frames_after fs h s) (open_after h s)) (comes_next s)
-  entered_goes q (Open f a) p w within = (
+  pub entered_give : (e i : ℕ) (m : Mode) (v : Reading) → x ≡ Evaluate e i m → Sound G h e i m v × Reads G h T (expression e) i m (Ok v) T → Out G Goal T (stack fs h) v
+  entered_give e i m v p o = in_give G Goal (entering e i m p) (subst (λ (k : ℕ). Sound G k e i m v × Reads G k T (expression e) i m (Ok v) T) (sym long) o)
+
+  pub entered_give_less : (e i : ℕ) (m : Mode) → x ≡ Evaluate e i m → weight G (stack fs h) < left G (stack fs h) x
+  entered_give_less e i m p = subst (λ (y : Control). weight G (stack fs h) < left G (stack fs h) y) (sym p) (falls_in_give G (stack fs h))
+
+  pub entered_open : (e i a j : ℕ) (m o : Mode) (f : Frame) → x ≡ Evaluate e i m → Opened G T h e i m f a j o → (h + 1 ≤ G.frames) × In G Goal T (stack (set fs h f) (h + 1)) a j o
+  entered_open e i a j m o f p w = (
     omega (arith, w.level),
-    subst (λ (st : List Frame). In G Goal T st a.part a.place a.mode) (sym (stack_push fs h f (omega (arith, fit, w.level))))
-        (in_open G Goal (entering q p) (subst (λ (k : ℕ). Opened G T k q.part q.place q.mode f a.part a.place a.mode) (sym long) w)),
-  )
-  entered_goes q (Give v) p o within = (
-    within,
-    in_give G Goal (entering q p) (subst (λ (k : ℕ). Sound G k q.part q.place q.mode v × Reads G k T (expression q.part) q.place q.mode (Ok v) T) (sym long) o),
+    subst (λ (st : List Frame). In G Goal T st a j o) (sym (stack_push fs h f (omega (arith, w.level))))
+        (in_open G Goal (entering e i m p) (subst (λ (k : ℕ). Opened G T k e i m f a j o) (sym long) w)),
   )
 
-  pub entered_less : (q : Ask) (s : Move) → x ≡ Evaluate q → Entered G T h q.part q.place q.mode (Ok s)
-      → left G (stack (frames_after fs h s) (open_after h s)) (comes_next s) < left G (stack fs h) x
-  entered_less q (Open f a) p w =
-      subst₂ (λ (st : List Frame) (y : Control). left G st (Evaluate a) < left G (stack fs h) y) (sym (stack_push fs h f (omega (arith, fit, w.level)))) (sym p)
+  pub entered_open_less : (e i a j : ℕ) (m o : Mode) (f : Frame) → x ≡ Evaluate e i m → Opened G T h e i m f a j o
+      → left G (stack (set fs h f) (h + 1)) (Evaluate a j o) < left G (stack fs h) x
+  entered_open_less e i a j m o f p w =
+      subst₂ (λ (st : List Frame) (y : Control). left G st (Evaluate a j o) < left G (stack fs h) y) (sym (stack_push fs h f (omega (arith, w.level)))) (sym p)
       (falls_in_open G (stack fs h) f (omega (arith, long, w.level)) w.small)
-  entered_less q (Give v) p o = subst (λ (y : Control). weight G (stack fs h) < left G (stack fs h) y) (sym p) (falls_in_give G (stack fs h))
 
   abbrev top : Frame
   top = get_or fs (h - 1) blank
@@ -203,42 +201,49 @@ module _ (G : Setting) (Goal : Res → Store → Type 0) (T : Store) (fs : List 
   pub resumed_awaiting : (v : Reading) → x ≡ Return v → 0 < h → Awaiting G (h - 1) top v
   resumed_awaiting v p some = subst (λ (k : ℕ). Awaiting G k top v) below (out_awaiting G Goal (leaving v p some))
 
-  pub resumed_room : (s : Move) → 0 < h → h ≤ G.frames → Room (length fs) (h - 1) s
-  resumed_room (Open f a) some within = omega (arith, fit)
-  resumed_room (Give w) some within = tt
+  pub resumed_give : (U : Store) (v w : Reading) → x ≡ Return v → 0 < h
+      → Sound G (h - 1) top.expression top.place (mode_by top.mode) w × Resume G (h - 1) top (Ok v) T (Ok w) U → Out G Goal U (stack fs (h - 1)) w
+  resumed_give U v w p some o =
+      out_give G Goal (leaving v p some) (subst (λ (k : ℕ). Sound G k top.expression top.place (mode_by top.mode) w × Resume G k top (Ok v) T (Ok w) U) (sym below) o)
 
-  pub resumed_goes : (U : Store) (v : Reading) (s : Move) → x ≡ Return v → 0 < h → h ≤ G.frames → Resumed G T U (h - 1) top v s
-      → (open_after (h - 1) s ≤ G.frames) × Going G Goal U (stack (frames_after fs (h - 1) s) (open_after (h - 1) s)) (comes_next s)
-  resumed_goes U v (Open f a) p some within w = (
-    omega arith,
-    subst (λ (st : List Frame). In G Goal U st a.part a.place a.mode) (sym (stack_push fs (h - 1) f (omega (arith, fit))))
-        (out_open G Goal (leaving v p some) (subst (λ (k : ℕ). Continued G T U k top v f a.part a.place a.mode) (sym below) w)),
-  )
-  resumed_goes U v (Give w) p some within o = (
-    omega arith,
-    out_give G Goal (leaving v p some) (subst (λ (k : ℕ). Sound G k top.expression top.place (mode_by top.mode) w × Resume G k top (Ok v) T (Ok w) U) (sym below) o),
-  )
-
-  pub resumed_less : (U : Store) (v : Reading) (s : Move) → x ≡ Return v → 0 < h → h ≤ G.frames → Resumed G T U (h - 1) top v s
-      → left G (stack (frames_after fs (h - 1) s) (open_after (h - 1) s)) (comes_next s) < left G (stack fs h) x
-  resumed_less U v (Open f a) p some within w =
-      let less : left G (f ∷ stack fs (h - 1)) (Evaluate a) < weight G (top ∷ stack fs (h - 1)) = falls_out_open G (stack fs (h - 1)) top f (omega (arith, below)) w.less in
-      let one : left G (f ∷ stack fs (h - 1)) (Evaluate a) < left G (stack fs h) x =
-      subst₂ (λ (st : List Frame) (y : Control). left G (f ∷ stack fs (h - 1)) (Evaluate a) < left G st y) (sym (stack_top fs h some)) (sym p) less in
-      subst (λ (st : List Frame). left G st (Evaluate a) < left G (stack fs h) x) (sym (stack_push fs (h - 1) f (omega (arith, fit)))) one
-  resumed_less U v (Give w) p some within o =
+  pub resumed_give_less : (v : Reading) → x ≡ Return v → 0 < h → weight G (stack fs (h - 1)) < left G (stack fs h) x
+  resumed_give_less v p some =
       subst₂ (λ (st : List Frame) (y : Control). weight G (stack fs (h - 1)) < left G st y) (sym (stack_top fs h some)) (sym p) (falls_out_give G (stack fs (h - 1)) top)
 
--- what the code makes of a step is what the lemmas speak of
-module _ {fs gs : List Frame} {k : ℕ} {x : Control} {z : ℕ × Control} (p : z ≡ (k, x)) (q : gs ≡ fs) (G : Setting) where
-  pub taken_goes : (Goal : Res → Store → Type 0) (T : Store) → (k ≤ G.frames) × Going G Goal T (stack fs k) x → (z.0 ≤ G.frames) × Going G Goal T (stack gs z.0) z.1
-  taken_goes Goal T o = subst₂ (λ (y : ℕ × Control) (ys : List Frame). (y.0 ≤ G.frames) × Going G Goal T (stack ys y.0) y.1) (sym p) (sym q) o
+  replaced : (f : Frame) → 0 < h → h ≤ G.frames → stack (set fs (h - 1) f) h ≡ f ∷ stack fs (h - 1)
+  replaced f some within =
+      let e : h ≡ (h - 1) + 1 = omega arith in
+      ap (stack (set fs (h - 1) f)) e ∙ stack_push fs (h - 1) f (omega (arith, fit))
 
-  pub taken_less : (n : ℕ) → left G (stack fs k) x < n → left G (stack gs z.0) z.1 < n
-  taken_less n o = subst₂ (λ (y : ℕ × Control) (ys : List Frame). left G (stack ys y.0) y.1 < n) (sym p) (sym q) o
+  pub resumed_open : (U : Store) (v : Reading) (f : Frame) (a j : ℕ) (o : Mode) → x ≡ Return v → 0 < h → h ≤ G.frames
+      → Continued G T U (h - 1) top v f a j o → In G Goal U (stack (set fs (h - 1) f) h) a j o
+  resumed_open U v f a j o p some within w =
+      subst (λ (st : List Frame). In G Goal U st a j o) (sym (replaced f some within))
+      (out_open G Goal (leaving v p some) (subst (λ (k : ℕ). Continued G T U k top v f a j o) (sym below) w))
+
+  pub resumed_open_less : (U : Store) (v : Reading) (f : Frame) (a j : ℕ) (o : Mode) → x ≡ Return v → 0 < h → h ≤ G.frames
+      → Continued G T U (h - 1) top v f a j o → left G (stack (set fs (h - 1) f) h) (Evaluate a j o) < left G (stack fs h) x
+  resumed_open_less U v f a j o p some within w =
+      let less : left G (f ∷ stack fs (h - 1)) (Evaluate a j o) < weight G (top ∷ stack fs (h - 1)) = falls_out_open G (stack fs (h - 1)) top f (omega (arith, below)) w.less in
+      let one : left G (f ∷ stack fs (h - 1)) (Evaluate a j o) < left G (stack fs h) x =
+      subst₂ (λ (st : List Frame) (y : Control). left G (f ∷ stack fs (h - 1)) (Evaluate a j o) < left G st y) (sym (stack_top fs h some)) (sym p) less in
+      subst (λ (st : List Frame). left G st (Evaluate a j o) < left G (stack fs h) x) (sym (replaced f some within)) one
+
+-- the whole question: expression e at place 0 in mode on, with none other open
+abbrev pub Goal : Setting → Store → ℕ → Res → Store → Type 0
+Goal G T e r U = Reads G 0 T (expression e) 0 On r U
+
+pub starts : (G : Setting) (T : Store) (e : ℕ) → e < G.grammar.N → In G (Goal G T e) T [] e 0 On
+starts G T e l = record { known = l; place = zero-le; chain = tt; next = λ r U reads. reads }
 
 -- the memory's places and rules are as they were
 pub entered_in : {E : Type 0} (g : Peg) (fits : ℕ → ℕ → E → Bool) (xs : List E) (k : ℕ) (keeps : Bool) (P P2 Q Q2 : ℕ) → P2 ≡ P → Q2 ≡ Q → (T : Store) (h e i : ℕ) (m : Mode) (r : Result Move Refusal)
     → Entered (setting g fits xs k keeps P2 Q2) T h e i m r → Entered (setting g fits xs k keeps P Q) T h e i m r
 entered_in g fits xs k keeps P P2 Q Q2 p q T h e i m r o =
     subst₂ (λ (a b : ℕ). Entered (setting g fits xs k keeps a b) T h e i m r) p q o
+
+pub opened_at : (G : Setting) (T : Store) (h e i : ℕ) (m : Mode) {x : Move} {f : Frame} {a j : ℕ} {o : Mode} → x ≡ Open f a j o → Entered G T h e i m (Ok x) → Opened G T h e i m f a j o
+opened_at G T h e i m p w = subst (λ (y : Move). Entered G T h e i m (Ok y)) p w
+
+pub given_at : (G : Setting) (T : Store) (h e i : ℕ) (m : Mode) {x : Move} {v : Reading} → x ≡ Give v → Entered G T h e i m (Ok x) → Sound G h e i m v × Reads G h T (expression e) i m (Ok v) T
+given_at G T h e i m p w = subst (λ (y : Move). Entered G T h e i m (Ok y)) p w

@@ -1,11 +1,10 @@
 -- Frames: what a blank one is, and what an open one says of its finished parts.
-use Rattle.std.specs.Prelude.{ℕ, zero, suc, List, length, replicate, Some, None, Option}
+use Rattle.std.specs.Prelude.{◌≡◌, ℕ, zero, suc, List, [], ◌∷◌, length, replicate, Some, None, Option, slice_index_or}
 use Rattle.grammar.specs.declared.expr.Mode.{Mode}
 use Rattle.grammar.specs.declared.expr.Mode.TheVariants.{On, Off}
 use Rattle.peg.specs.declared.results.Outcome.TheVariants.{Match}
 use Rattle.peg.specs.declared.results.Note.{Note}
 use Rattle.peg.specs.declared.results.Reading.{Reading}
-use Rattle.reading.specs.Reads.{noted_marks}
 use Rattle.engine.specs.declared.frame.Frame.{Frame}
 
 -- blank is all zero
@@ -34,6 +33,11 @@ so_far f = record {
   reach = f.reach;
 }
 
+-- the open frames, the last opened first
+abbrev pub stack : List Frame → ℕ → List Frame
+stack fs zero = []
+stack fs (suc k) = slice_index_or fs k blank ∷ stack fs k
+
 abbrev pub mode_number : Mode → ℕ
 mode_number On = 0
 mode_number Off = 1
@@ -50,6 +54,10 @@ noted_number (Some x) = 1
 abbrev pub noted_at : Option Note → ℕ
 noted_at None = 0
 noted_at (Some x) = x.place
+
+abbrev pub noted_marks : Option Note → ℕ
+noted_marks None = 0
+noted_marks (Some x) = x.marks
 
 -- the same frame, with a part finished: its parts came to v, and the next one begins at place j
 abbrev pub going_on : Frame → ℕ → Reading → Frame

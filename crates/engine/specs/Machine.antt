@@ -1,5 +1,5 @@
--- What the engine's records mean: what an open frame waits for, and how it goes on with what its part gave.
-use Rattle.std.specs.Prelude.{◌≡◌, ℕ, zero, suc, ◌+◌, ◌-◌, ◌^◌, ◌<◌, ◌≤◌, max, true, false, List, Some, Ok, Err, Result, slice_set}
+-- What the engine's records mean: how an open frame goes on with what its part gave, and what is kept from turn to turn.
+use Rattle.std.specs.Prelude.{◌≡◌, ℕ, zero, suc, ◌+◌, ◌-◌, ◌*◌, ◌^◌, ◌<◌, ◌≤◌, max, Bool, true, false, List, [], ◌∷◌, length, get_or, Some, None, Ok, Err, Option, Result}
 use Rattle.grammar.specs.declared.expr.Mode.{Mode}
 use Rattle.grammar.specs.declared.expr.Mode.TheVariants.{On, Off}
 use Rattle.grammar.specs.declared.expr.Expr.{Expr}
@@ -8,19 +8,19 @@ use Rattle.grammar.specs.Words.{Peg}
 use Rattle.grammar.specs.Form.{recovers_lem, Nullable, Whole, Solid}
 use Rattle.peg.specs.declared.results.Outcome.{Outcome}
 use Rattle.peg.specs.declared.results.Outcome.TheVariants.{Match, Failure}
+use Rattle.peg.specs.declared.results.Note.{Note}
 use Rattle.peg.specs.declared.results.Reading.{Reading}
 use Rattle.peg.specs.Rules.{join, caught}
 use Rattle.peg.specs.Summaries.{added}
 use Rattle.peg.specs.Readings.{read_deeper, read_sequence, read_other, read_end, read_round, read_predicate, read_recovery}
 use Rattle.reading.specs.declared.refusal.Refusal.{Refusal}
 use Rattle.engine.specs.declared.frame.Frame.{Frame}
-use Rattle.engine.specs.declared.step.Ask.{Ask}
 use Rattle.engine.specs.declared.step.Move.{Move}
 use Rattle.engine.specs.declared.step.Move.TheVariants.{Open, Give}
 use Rattle.engine.specs.declared.step.Control.{Control}
 use Rattle.engine.specs.declared.step.Control.TheVariants.{Evaluate, Return}
-use Rattle.engine.specs.Frames.{mode_by, so_far, fresh_frame}
-use Rattle.reading.specs.Reads.{Setting, Store, Res, expression, each, row_of, place_of, NoteWithin, Stores, Reads}
+use Rattle.engine.specs.Frames.{mode_by, so_far, stack}
+use Rattle.reading.specs.Reads.{Setting, Store, Res, Asked, expression, rule, each, row_of, place_of, NoteWithin, Stores, Reads}
 
 -- what the code asks of a setting
 pub record Sane (G : Setting) : Type 0 where
@@ -167,14 +167,10 @@ pub record Opened (G : Setting) (T : Store) (h e i : ℕ) (m : Mode) (f : Frame)
   pub small : digit G f ≤ G.size + 2
   pub back : (r : Res) (U : Store) (r2 : Res) (W : Store) → Reads G (h + 1) T (expression a) j o r U → Resume G h f r U r2 W → Reads G h T (expression e) i m r2 W
 
--- what is asked is opened with its part a in mode o, at its own place
-abbrev pub opens_with : Ask → ℕ → Mode → Move
-opens_with q a o = Open (fresh_frame q.part q.place q.mode) (record { part = a; place = q.place; mode = o })
-
 abbrev pub Entered : Setting → Store → ℕ → ℕ → ℕ → Mode → Result Move Refusal → Type 0
 Entered G T h e i m (Err z) = Reads G h T (expression e) i m (Err z) T
 Entered G T h e i m (Ok (Give v)) = Sound G h e i m v × Reads G h T (expression e) i m (Ok v) T
-Entered G T h e i m (Ok (Open f q)) = Opened G T h e i m f q.part q.place q.mode
+Entered G T h e i m (Ok (Open f a j o)) = Opened G T h e i m f a j o
 
 -- f, handed v at the store T, becomes f2, which goes on with a at j in mode o from the store U.
 pub record Continued (G : Setting) (T U : Store) (h : ℕ) (f : Frame) (v : Reading) (f2 : Frame) (a j : ℕ) (o : Mode) : Type 0 where
@@ -187,27 +183,7 @@ pub record Continued (G : Setting) (T U : Store) (h : ℕ) (f : Frame) (v : Read
 
 abbrev pub Resumed : Setting → Store → Store → ℕ → Frame → Reading → Move → Type 0
 Resumed G T U h f v (Give w) = Sound G h f.expression f.place (mode_by f.mode) w × Resume G h f (Ok v) T (Ok w) U
-Resumed G T U h f v (Open f2 q) = Continued G T U h f v f2 q.part q.place q.mode
-
--- a step at level k: the frame that it opens is held there
-abbrev pub frames_after : List Frame → ℕ → Move → List Frame
-frames_after fs k (Open f q) = slice_set fs k f
-frames_after fs k (Give v) = fs
-
--- how many are open then
-abbrev pub open_after : ℕ → Move → ℕ
-open_after k (Open f q) = k + 1
-open_after k (Give v) = k
-
--- what comes next
-abbrev pub comes_next : Move → Control
-comes_next (Open f q) = Evaluate q
-comes_next (Give v) = Return v
-
--- of n frames, one is there for what is opened at level k
-abbrev pub Room : ℕ → ℕ → Move → Type 0
-Room n k (Open f q) = k < n
-Room n k (Give v) = Unit {0}
+Resumed G T U h f v (Open f2 a j o) = Continued G T U h f v f2 a j o
 
 -- what resuming f with v asks
 pub record Awaiting (G : Setting) (h : ℕ) (f : Frame) (v : Reading) : Type 0 where
@@ -216,6 +192,45 @@ pub record Awaiting (G : Setting) (h : ℕ) (f : Frame) (v : Reading) : Type 0 w
   pub mode : Mode
   pub awaits : Awaits G h f part place mode
   pub sound : Sound G (h + 1) part place mode v
+
+-- Whatever the open frames make of r and T is an answer to the whole question.
+abbrev pub Answers : Setting → (Res → Store → Type 0) → List Frame → Res → Store → Type 0
+Answers G Goal [] r T = Goal r T
+Answers G Goal (f ∷ fs) r T = (r2 : Res) (U : Store) → Resume G (length fs) f r T r2 U → Answers G Goal fs r2 U
+
+abbrev pub Chain : Setting → List Frame → ℕ → ℕ → Mode → Type 0
+Chain G [] e i m = Unit {0}
+Chain G (f ∷ fs) e i m = Awaits G (length fs) f e i m × Chain G fs f.expression f.place (mode_by f.mode)
+
+-- e at i in mode m is to be evaluated below the open frames
+pub record In (G : Setting) (Goal : Res → Store → Type 0) (T : Store) (fs : List Frame) (e i : ℕ) (m : Mode) : Type 0 where
+  pub known : e < G.grammar.N
+  pub place : i ≤ G.size
+  pub chain : Chain G fs e i m
+  pub next : (r : Res) (U : Store) → Reads G (length fs) T (expression e) i m r U → Answers G Goal fs r U
+
+-- v is to be handed to the last opened frame
+pub record Out (G : Setting) (Goal : Res → Store → Type 0) (T : Store) (fs : List Frame) (v : Reading) : Type 0 where
+  pub e : ℕ
+  pub i : ℕ
+  pub m : Mode
+  pub sound : Sound G (length fs) e i m v
+  pub chain : Chain G fs e i m
+  pub next : Answers G Goal fs (Ok v) T
+
+-- what is kept from turn to turn
+abbrev pub Going : Setting → (Res → Store → Type 0) → Store → List Frame → Control → Type 0
+Going G Goal T fs (Evaluate e i m) = In G Goal T fs e i m
+Going G Goal T fs (Return v) = Out G Goal T fs v
+
+-- what falls from turn to turn: the frames' digits, to the base of the size and four
+abbrev pub weight : Setting → List Frame → ℕ
+weight G [] = 0
+weight G (f ∷ fs) = digit G f * (G.size + 4) ^ (G.frames - length fs) + weight G fs
+
+abbrev pub left : Setting → List Frame → Control → ℕ
+left G fs (Evaluate e i m) = (G.size + 3) * (G.size + 4) ^ (G.frames - length fs) + weight G fs
+left G fs (Return v) = weight G fs
 
 -- places that a row can hold as distances
 pub record Fine (v : Reading) : Type 0 where

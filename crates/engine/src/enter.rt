@@ -3,18 +3,15 @@ ghost use Rattle.std.specs.Prelude.{◌≡◌, ℕ, ◌+◌, ◌^◌, ◌<◌, �
 ghost use Rattle.grammar.specs.declared.expr.Expr.TheVariants.{Call};
 ghost use Rattle.grammar.specs.Words.{meaning};
 ghost use Rattle.grammar.specs.Form.{recovers_lem};
-ghost use Rattle.peg.specs.declared.results.Outcome.TheVariants.{Failure};
-ghost use Rattle.peg.specs.Rules.{unmarked};
-ghost use Rattle.peg.specs.Readings.{read_alone};
 ghost use Rattle.text.specs.Meaning.{accepted};
 ghost use Rattle.engine.specs.Frames.{fresh_frame, mode_number};
 ghost use Rattle.reading.specs.Reads.{setting, store, read_terminal};
-ghost use Rattle.engine.specs.Machine.{Sane, Entered, opens_with};
+ghost use Rattle.engine.specs.Machine.{Sane, Entered};
 
 use crate::find::found;
 use crate::frame::Frame;
 use crate::readings::{alone, deeper};
-use crate::step::{Ask, Move};
+use crate::step::Move;
 use grammar::accepted::Grammar;
 use grammar::expr::{Expr, Mode};
 use memo::memory::Memory;
@@ -33,14 +30,14 @@ fn number_of(mode: Mode) -> u8
 }
 
 /// The frame of an expression that begins.
-fn fresh(ask: Ask) -> Frame
-    ensures { result ≡ fresh_frame ask.part ask.place ask.mode }
+fn fresh(expression: usize, place: usize, mode: Mode) -> Frame
+    ensures { result ≡ fresh_frame expression place mode }
 {
     let mut frame = Frame::blank();
-    frame.expression = ask.part;
-    frame.place = ask.place;
-    frame.mode = number_of(ask.mode);
-    frame.at = ask.place;
+    frame.expression = expression;
+    frame.place = place;
+    frame.mode = number_of(mode);
+    frame.at = place;
     frame
 }
 
@@ -71,28 +68,6 @@ fn recovers(grammar: &Grammar<'_>, label: usize, mode: Mode) -> Option<usize>
     }
 }
 
-/// An expression is opened with its first part, at its own place.
-fn opened(ask: Ask, part: usize, mode: Mode) -> Move
-    ensures { result ≡ opens_with ask part mode }
-{
-    Move::Open {
-        frame: fresh(ask),
-        ask: Ask { part, mode, ..ask },
-    }
-}
-
-/// A throw that no expression recovers.
-fn thrown(label: u8, place: usize) -> Reading
-    requires { place < 2 ^ 63 }
-    ensures { result ≡ read_alone place (Failure label place) (unmarked place) }
-{
-    alone(
-        place,
-        Outcome::Failure { label, place },
-        Some(Note { place, marks: 0 }),
-    )
-}
-
 /// A call: its rule-place is looked up first.
 fn enter_call<T: Text, M: Memory>(
     grammar: &Grammar<'_>,
@@ -100,25 +75,32 @@ fn enter_call<T: Text, M: Memory>(
     memory: &M,
     frames: usize,
     height: usize,
-    ask: Ask,
+    expression: usize,
     rule: usize,
+    place: usize,
+    mode: Mode,
 ) -> Result<Move, Refusal>
     requires sane { Sane (setting (meaning grammar.now.words.now) fits (elements text.now) frames keeps (P memory.now) (Q memory.now)) }
-    requires known { ask.part < (meaning grammar.now.words.now).N }
-    requires within { ask.place ≤ length (elements text.now) }
+    requires known { expression < (meaning grammar.now.words.now).N }
+    requires within { place ≤ length (elements text.now) }
     requires level { height < frames }
-    requires call { (meaning grammar.now.words.now).expr ask.part ≡ Call rule }
-    ensures { (n : ℕ) → Entered (setting (meaning grammar.now.words.now) fits (elements text.now) frames keeps (P memory.now) (Q memory.now)) (store (table memory.now) n) height ask.part ask.place ask.mode result }
+    requires call { (meaning grammar.now.words.now).expr expression ≡ Call rule }
+    ensures { (n : ℕ) → Entered (setting (meaning grammar.now.words.now) fits (elements text.now) frames keeps (P memory.now) (Q memory.now)) (store (table memory.now) n) height expression place mode result }
 {
-    match memory.look(rule, ask.place, ask.mode) {
-        None => Ok(opened(ask, grammar.body(rule), ask.mode)),
+    match memory.look(rule, place, mode) {
+        None => Ok(Move::Open {
+            frame: fresh(expression, place, mode),
+            part: grammar.body(rule),
+            place,
+            mode,
+        }),
         Some(row) => match found(
             grammar,
             text.size(),
             frames - height - 1,
             rule,
-            ask.place,
-            ask.mode,
+            place,
+            mode,
             row,
         ) {
             Ok(reading) => Ok(Move::Give {
@@ -136,37 +118,73 @@ pub(crate) fn enter<T: Text, M: Memory>(
     memory: &M,
     frames: usize,
     height: usize,
-    ask: Ask,
+    expression: usize,
+    place: usize,
+    mode: Mode,
 ) -> Result<Move, Refusal>
     requires sane { Sane (setting (meaning grammar.now.words.now) fits (elements text.now) frames keeps (P memory.now) (Q memory.now)) }
-    requires known { ask.part < (meaning grammar.now.words.now).N }
-    requires within { ask.place ≤ length (elements text.now) }
-    ensures { (n : ℕ) → Entered (setting (meaning grammar.now.words.now) fits (elements text.now) frames keeps (P memory.now) (Q memory.now)) (store (table memory.now) n) height ask.part ask.place ask.mode result }
+    requires known { expression < (meaning grammar.now.words.now).N }
+    requires within { place ≤ length (elements text.now) }
+    ensures { (n : ℕ) → Entered (setting (meaning grammar.now.words.now) fits (elements text.now) frames keeps (P memory.now) (Q memory.now)) (store (table memory.now) n) height expression place mode result }
 {
     if height >= frames {
         return Err(Refusal::TooDeep);
     }
-    let place = ask.place;
-    match grammar.expr(ask.part) {
+    let frame = fresh(expression, place, mode);
+    match grammar.expr(expression) {
         Expr::Empty => Ok(Move::Give {
             reading: alone(place, Outcome::Match { end: place }, None),
         }),
         Expr::Terminal { a, b, mark } => Ok(Move::Give {
             reading: terminal(text, a, b, mark, place),
         }),
-        Expr::Call { rule } => enter_call(grammar, text, memory, frames, height, ask, rule),
-        Expr::Sequence { first, second: _ } => Ok(opened(ask, first, ask.mode)),
+        Expr::Call { rule } => enter_call(
+            grammar, text, memory, frames, height, expression, rule, place, mode,
+        ),
+        Expr::Sequence { first, second: _ } => Ok(Move::Open {
+            frame,
+            part: first,
+            place,
+            mode,
+        }),
         Expr::Choice {
             first,
             second: _,
             set: _,
-        } => Ok(opened(ask, first, ask.mode)),
-        Expr::Repetition { part } => Ok(opened(ask, part, ask.mode)),
-        Expr::Predicate { part } => Ok(opened(ask, part, Mode::Off)),
-        Expr::Throw { label } => match recovers(grammar, label, ask.mode) {
-            Some(part) => Ok(opened(ask, part, Mode::On)),
+        } => Ok(Move::Open {
+            frame,
+            part: first,
+            place,
+            mode,
+        }),
+        Expr::Repetition { part } => Ok(Move::Open {
+            frame,
+            part,
+            place,
+            mode,
+        }),
+        Expr::Predicate { part } => Ok(Move::Open {
+            frame,
+            part,
+            place,
+            mode: Mode::Off,
+        }),
+        Expr::Throw { label } => match recovers(grammar, label, mode) {
+            Some(part) => Ok(Move::Open {
+                frame,
+                part,
+                place,
+                mode: Mode::On,
+            }),
             None => Ok(Move::Give {
-                reading: thrown(label as u8, place),
+                reading: alone(
+                    place,
+                    Outcome::Failure {
+                        label: label as u8,
+                        place,
+                    },
+                    Some(Note { place, marks: 0 }),
+                ),
             }),
         },
     }

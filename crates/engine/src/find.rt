@@ -1,5 +1,5 @@
 //! A row that was found: what it tells from its place, and whether it may stand for the evaluation.
-ghost use Rattle.std.specs.Prelude.{◌≡◌, ℕ, ◌+◌, ◌^◌, ◌<◌, not, ◌&&◌, ◌||◌};
+ghost use Rattle.std.specs.Prelude.{◌≡◌, ℕ, ◌+◌, ◌^◌, ◌<◌, ◌≤◌, Bool, not, ◌&&◌, ◌||◌};
 ghost use Rattle.grammar.specs.Words.{meaning};
 ghost use Rattle.grammar.specs.Questions.{Tells};
 ghost use Rattle.memo.specs.Rows.{outcome_from, note_from, recoveries_from, told_from};
@@ -140,7 +140,7 @@ fn may_stand(
     requires { size < 2 ^ 63 }
     ensures { (G : Setting) → G.grammar ≡ meaning grammar.now.words.now → G.size ≡ size → Tells result (Fits G rule place mode v) }
 {
-    let fits = places_fit(size, grammar.counts().labels, v);
+    let fits = places_fit(size, grammar.labels(), v);
     all_fits(
         fits,
         is_nothing(place, v.outcome),

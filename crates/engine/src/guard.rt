@@ -1,4 +1,4 @@
-//! Whichever way a reading ends, the lent frames are blank again.
+//! The lent frames come back blank on every way out.
 ghost use Rattle.std.specs.Prelude.{◌≡◌};
 ghost use Rattle.engine.specs.Frames.{blanked};
 

@@ -7,7 +7,7 @@ ghost use Rattle.engine.specs.Frames.{blanked};
 ghost use Rattle.reading.specs.Reads.{setting, store, rule, Reads};
 ghost use Rattle.engine.specs.Machine.{Sane};
 ghost use Rattle.reading.specs.Promises.{Promised};
-ghost use Rattle.reading.specs.Replies.{answer_of, RefusedBy, Replies};
+ghost use Rattle.reading.specs.Replies.{answer_of, Replies};
 
 use crate::find::found;
 use crate::frame::Frame;
@@ -36,7 +36,7 @@ fn answered(res: Result<Reading, Refusal>) -> Result<Answer, Refusal>
     }
 }
 
-/// Rule 0 in mode on at place 0.
+/// Rule 0 at place 0 in mode on.
 fn root<T: Text, M: Memory>(
     grammar: &Grammar<'_>,
     text: &T,
@@ -70,10 +70,10 @@ fn covers(places: usize, capacity: usize, rules: usize, needed: usize) -> bool
     capacity < places && needed <= rules
 }
 
-/// Reads a text by a grammar: rule 0 in mode on at place 0.
+/// Reads a text by a grammar: rule 0 at place 0 in mode on.
 ///
 /// The reply and the rows left are those of a reading (`replies`); what that promises, by number and in the words of the rules, is `promised`.
-/// The frames are blank again whichever way it ends, whatever they held; their number bounds the depth.
+/// The frames come back blank on every way out, whatever they held; their number bounds the depth.
 pub fn read<T: Text, M: Memory>(
     grammar: &Grammar<'_>,
     text: &T,
@@ -82,7 +82,6 @@ pub fn read<T: Text, M: Memory>(
 ) -> Reply
     ensures replies { Replies (setting (meaning grammar.now.words.now) fits (elements text.now) (length frames.old) keeps (P memory.old) (Q memory.old)) (room text.now) (table memory.old) result (table memory.new) }
     ensures promised { Promised (setting (meaning grammar.now.words.now) fits (elements text.now) (length frames.old) keeps (P memory.old) (Q memory.old)) (room text.now) (table memory.old) result (table memory.new) }
-    ensures unchanged { RefusedBy 8 result → memory.new ≡ memory.old }
     ensures blank { frames.new ≡ blanked frames.old }
     ensures places { P memory.new ≡ P memory.old }
     ensures rules { Q memory.new ≡ Q memory.old }
@@ -92,7 +91,7 @@ pub fn read<T: Text, M: Memory>(
         memory.places(),
         text.capacity(),
         memory.rules(),
-        grammar.counts().rules,
+        grammar.rules(),
     ) {
         return Reply {
             result: Err(Refusal::Uncovered),

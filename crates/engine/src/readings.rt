@@ -1,5 +1,5 @@
 //! What is told of a whole, from what was told of its parts.
-ghost use Rattle.std.specs.Prelude.{◌≡◌, ◌+◌, ◌^◌, ◌<◌, Some};
+ghost use Rattle.std.specs.Prelude.{◌≡◌, ℕ, ◌+◌, ◌^◌, ◌<◌, ◌≤◌, Some};
 ghost use Rattle.peg.specs.Rules.{join as joinNotes};
 ghost use Rattle.peg.specs.Summaries.{added as adds};
 ghost use Rattle.peg.specs.Readings.{no_recoveries, matched_only, read_alone, read_deeper, read_sequence, read_other, read_end, read_round, read_predicate, read_recovery};

@@ -1,15 +1,15 @@
 //! A frame is handed what its open part gave: it gives in turn, or goes on with another part.
-ghost use Rattle.std.specs.Prelude.{◌≡◌, ℕ, ◌+◌, ◌^◌, ◌<◌, min};
+ghost use Rattle.std.specs.Prelude.{◌≡◌, ℕ, ◌+◌, ◌-◌, ◌^◌, ◌<◌, ◌≤◌, min};
 ghost use Rattle.grammar.specs.Words.{meaning};
-ghost use Rattle.engine.specs.Frames.{mode_by, so_far, going_on};
-ghost use Rattle.reading.specs.Reads.{Setting, Store, store, row_of, most_fresh, noted};
+ghost use Rattle.engine.specs.Frames.{mode_by, note_by, so_far, noted_number, noted_at, going_on};
+ghost use Rattle.reading.specs.Reads.{Setting, Store, store, row_of, most_fresh, matches, label_of, place_of, noted, noted_place, noted_marks};
 ghost use Rattle.engine.specs.Machine.{rounds, finish, read_unmatched, Sane, Awaiting, Fine, Shallow, Handed, Resumed};
-ghost use Rattle.grammar.specs.declared.expr.Expr.TheVariants.{Sequence, Choice, Repetition, Call};
+ghost use Rattle.grammar.specs.declared.expr.Expr.TheVariants.{Sequence, Choice, Repetition, Call, Predicate, Throw};
 ghost use Rattle.peg.specs.Rules.{caught};
 
 use crate::frame::Frame;
 use crate::readings::{deeper, ended, joined, other, predicate, recovery, round, sequence};
-use crate::step::{Ask, Move};
+use crate::step::Move;
 use grammar::accepted::Grammar;
 use grammar::expr::{Expr, Mode};
 use memo::memory::Memory;
@@ -144,11 +144,9 @@ fn after_sequence(frame: Frame, second: usize, v: Reading) -> Move
     match v.outcome {
         Outcome::Match { end } => Move::Open {
             frame: next(frame, end, v),
-            ask: Ask {
-                part: second,
-                place: end,
-                mode: mode_of(frame.mode),
-            },
+            part: second,
+            place: end,
+            mode: mode_of(frame.mode),
         },
         Outcome::Failure { label: _, place: _ } => Move::Give { reading: deeper(v) },
     }
@@ -177,11 +175,9 @@ fn after_choice(grammar: &Grammar<'_>, frame: Frame, second: usize, set: usize, 
     if is_caught(grammar, set, v.outcome) {
         Move::Open {
             frame: next(frame, frame.place, v),
-            ask: Ask {
-                part: second,
-                place: frame.place,
-                mode: mode_of(frame.mode),
-            },
+            part: second,
+            place: frame.place,
+            mode: mode_of(frame.mode),
         }
     } else {
         Move::Give { reading: deeper(v) }
@@ -208,11 +204,9 @@ fn after_round(frame: Frame, part: usize, v: Reading) -> Move
     match v.outcome {
         Outcome::Match { end } => Move::Open {
             frame: next(frame, end, with_round(frame, v)),
-            ask: Ask {
-                part,
-                place: end,
-                mode: mode_of(frame.mode),
-            },
+            part,
+            place: end,
+            mode: mode_of(frame.mode),
         },
         Outcome::Failure { label, place: _ } => Move::Give {
             reading: after_rounds(frame, unmatched(frame.at, label, v)),

@@ -1,35 +1,20 @@
 //! The loop: expressions are entered and frames resumed until rule 0's body has given something.
-ghost use Rattle.std.specs.Prelude.{◌≡◌, ◌<◌, length, IfOk};
+ghost use Rattle.std.specs.Prelude.{◌≡◌, ℕ, ◌<◌, ◌≤◌, length, IfOk};
 ghost use Rattle.grammar.specs.declared.expr.Mode.TheVariants.{On};
 ghost use Rattle.grammar.specs.Words.{meaning};
 ghost use Rattle.reading.specs.Reads.{setting, store, expression, Reads};
-ghost use Rattle.engine.specs.Machine.{Sane, Fine, Room, frames_after, open_after, comes_next};
+ghost use Rattle.engine.specs.Machine.{Sane, Fine};
 
 use crate::enter::enter;
 use crate::frame::Frame;
 use crate::resume::resume;
-use crate::step::{Ask, Control, Move};
+use crate::step::{Control, Move};
 use grammar::accepted::Grammar;
 use grammar::expr::Mode;
 use memo::memory::Memory;
 use peg::results::Reading;
 use reading::refusal::Refusal;
 use text::Text;
-
-/// Takes a step at a level, where the frame that it opens is held: how many are open then, and what comes next.
-fn taken(frames: &mut [Frame], level: usize, step: Move) -> (usize, Control)
-    requires { Room (length frames.old) level step }
-    ensures next { result ≡ (open_after level step, comes_next step) }
-    ensures held { frames.new ≡ frames_after frames.old level step }
-{
-    match step {
-        Move::Open { frame, ask } => {
-            frames[level] = frame;
-            (level + 1, Control::Evaluate { ask })
-        }
-        Move::Give { reading } => (level, Control::Return { reading }),
-    }
-}
 
 /// Evaluates an expression at place 0 in mode on, with no other open.
 pub(crate) fn evaluate<T: Text, M: Memory>(
@@ -50,25 +35,59 @@ pub(crate) fn evaluate<T: Text, M: Memory>(
     let count = frames.len();
     let mut height = 0;
     let mut control = Control::Evaluate {
-        ask: Ask {
-            part: root,
-            place: 0,
-            mode: Mode::On,
-        },
+        part: root,
+        place: 0,
+        mode: Mode::On,
     };
     'turns: loop {
         match control {
-            Control::Evaluate { ask } => match enter(grammar, text, &*memory, count, height, ask) {
-                Err(refusal) => return Err(refusal),
-                Ok(step) => (height, control) = taken(frames, height, step),
+            Control::Evaluate { part, place, mode } => match enter(
+                grammar, text, &*memory, count, height, part, place, mode,
+            ) {
+                Err(refusal) => {
+                    return Err(refusal);
+                }
+                Ok(step) => match step {
+                    Move::Open {
+                        frame,
+                        part: inner,
+                        place: at,
+                        mode: within,
+                    } => {
+                        frames[height] = frame;
+                        height += 1;
+                        control = Control::Evaluate {
+                            part: inner,
+                            place: at,
+                            mode: within,
+                        };
+                    }
+                    Move::Give { reading } => {
+                        control = Control::Return { reading };
+                    }
+                },
             },
             Control::Return { reading } => {
                 if height == 0 {
                     return Ok(reading);
                 }
                 let top = height - 1;
-                let step = resume(grammar, memory, fresh, top, frames[top], reading);
-                (height, control) = taken(frames, top, step);
+                let frame = frames[top];
+                match resume(grammar, memory, fresh, top, frame, reading) {
+                    Move::Open {
+                        frame: next,
+                        part,
+                        place,
+                        mode,
+                    } => {
+                        frames[top] = next;
+                        control = Control::Evaluate { part, place, mode };
+                    }
+                    Move::Give { reading: whole } => {
+                        height = top;
+                        control = Control::Return { reading: whole };
+                    }
+                }
             }
         }
     }

@@ -3,26 +3,31 @@ use crate::frame::Frame;
 use grammar::expr::Mode;
 use peg::results::Reading;
 
-/// An expression to be evaluated at a place in a mode.
-#[derive(Clone, Copy)]
-pub(crate) struct Ask {
-    pub(crate) part: usize,
-    pub(crate) place: usize,
-    pub(crate) mode: Mode,
-}
-
 /// What entering an expression, or resuming a frame, comes to.
 #[derive(Clone, Copy)]
 pub(crate) enum Move {
-    /// The frame is open, and goes on with this part.
-    Open { frame: Frame, ask: Ask },
+    /// The frame is open, and goes on with a part at a place in a mode.
+    Open {
+        frame: Frame,
+        part: usize,
+        place: usize,
+        mode: Mode,
+    },
     /// The expression gives this.
-    Give { reading: Reading },
+    Give {
+        reading: Reading,
+    },
 }
 
 /// What comes next.
 #[derive(Clone, Copy)]
 pub(crate) enum Control {
-    Evaluate { ask: Ask },
-    Return { reading: Reading },
+    Evaluate {
+        part: usize,
+        place: usize,
+        mode: Mode,
+    },
+    Return {
+        reading: Reading,
+    },
 }

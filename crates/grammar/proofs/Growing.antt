@@ -1,17 +1,21 @@
 -- Marks that grow: one by one, in a pass, and over passes.
-use Rattle.std.proofs.Common.{◌≡◌, ℕ, ◌+◌, ◌<◌, Bool, true, false, ◌||◌, List, sym, refl, ◌∙◌, subst, inl, inr, arith}
+use Rattle.std.proofs.Common.{◌≡◌, ℕ, ◌+◌, ◌<◌, Bool, true, false, ◌||◌, ◌⊎◌, List, sym, refl, ap, ◌∙◌, subst, inl, inr, arith}
 use Rattle.std.proofs.lemmas.Bool.{both_ways, cases_eq}
 use Rattle.grammar.specs.declared.expr.Mode.{Mode}
 use Rattle.grammar.specs.declared.marks.Fact.{Fact}
 use Rattle.grammar.specs.declared.marks.Fact.TheVariants.{MayMatchNothing, WalksEnd}
 use Rattle.grammar.specs.Words.{Peg}
 use Rattle.grammar.specs.Form.{Whole}
-use Rattle.grammar.specs.Marks.{Marks, mark, Marked, due, Backed, Blank, Ready, other, missing, Grew, Tried, Holds}
+use Rattle.grammar.specs.Marks.{Marks, mark, Marked, due, Backed, Blank, Ready, Same, other, missing, Grew, Tried, Holds}
 use Rattle.grammar.proofs.Settling.{due_holds, missing_lt}
 
 not_other : (f : Fact) → other f ≡ f → ⊥
 not_other MayMatchNothing p = let z : ◌≡◌ {A = ℕ} 0 1 = cc in absurd (omega arith)
 not_other WalksEnd p = let z : ◌≡◌ {A = ℕ} 0 1 = cc in absurd (omega arith)
+
+-- nothing new
+pub grew_none : (g : Peg) (ws : List ℕ) (f : Fact) → Backed g (mark ws) f → Grew g ws ws f false
+grew_none g ws f b = record { backed = b; same = λ e m. refl; fewer = λ p. absurd (both_ways false refl p); rest = λ p. refl }
 
 -- one mark more
 pub grew_one : (g : Peg) (ws xs : List ℕ) (f : Fact) (e : ℕ) (m : Mode) → Whole g → e < g.N → Ready g (mark ws) f → Backed g (mark ws) f

@@ -1,5 +1,5 @@
 -- Marks that are settled say just which expressions may match nothing, and from which no walk goes on for ever.
-use Rattle.std.proofs.Common.{◌≡◌, ℕ, zero, suc, ◌<◌, ◌≤◌, Bool, true, false, not, Some, None, Option, sym, refl, ap, ◌∙◌, subst, inl, inr, arith}
+use Rattle.std.proofs.Common.{◌≡◌, ℕ, zero, suc, ◌+◌, ◌<◌, ◌≤◌, Bool, true, false, not, ◌&&◌, ◌||◌, ◌⊎◌, Some, None, Option, sym, refl, ap, ◌∙◌, subst, inl, inr, arith}
 use Rattle.std.proofs.lemmas.Bool.{and_parts, and_from, and_cases, or_cases, or_parts, or_left, or_right, not-true, not-false, both_ways, cases_Bool, cases_eq}
 use Rattle.grammar.specs.declared.expr.Mode.{Mode}
 use Rattle.grammar.specs.declared.expr.Mode.TheVariants.{On, Off}
@@ -11,12 +11,11 @@ use Rattle.grammar.specs.Words.{Peg}
 use Rattle.grammar.specs.Form.{recovers_lem, Nullable, Leads, Endless, Refers, Whole}
 use Rattle.grammar.specs.Form.{by_empty, by_repetition, by_predicate, by_call, by_sequence, by_first, by_second, by_recovery}
 use Rattle.grammar.specs.Form.{to_body, to_first, past_first, to_one, to_other, to_part, to_inside, to_recovery}
-use Rattle.grammar.specs.Marks.{Marks, may, may_recovery, ends, ends_recovery, due, Halting, halts, Holds, Backed, Complete, Right, Ready, Decided, Same, other, unset, missing}
+use Rattle.grammar.specs.Marks.{Marks, may, may_recovery, ends, ends_recovery, due, Halting, halts, Holds, Backed, Complete, Right, Ready, Decided, Blank, Same, other, unset, missing}
 
--- a recovery expression is an expression of the grammar
-pub recovery_low : (g : Peg) (l : ℕ) (m : Mode) (e : ℕ) → Refers g (Throw l) → recovers_lem g l m ≡ Some e → e < g.N
-recovery_low g l On e h p = h e p
-recovery_low g l Off e h p = let z : ◌≡◌ {A = ℕ} 0 1 = cc in let b : ⊥ = omega arith in absurd b
+recovers_on : (g : Peg) (l e : ℕ) (m : Mode) → recovers_lem g l m ≡ Some e → g.recovery l ≡ Some e
+recovers_on g l e On p = p
+recovers_on g l e Off p = let z : ◌≡◌ {A = ℕ} 0 1 = cc in absurd (omega arith)
 
 module _ (g : Peg) (whole : Whole g) where
   -- a leading part is an expression of the grammar
@@ -28,12 +27,12 @@ module _ (g : Peg) (whole : Whole g) where
   leads_low to_other h = h.1
   leads_low to_part h = h
   leads_low to_inside h = h
-  leads_low {m} (to_recovery {l = l} {e = e} p) h = recovery_low g l m e h p
+  leads_low {m} (to_recovery {l = l} {e = e} p) h = h e (recovers_on g l e m p)
 
   module _ (s : Marks) where
     may_recovery_holds : Backed g s MayMatchNothing → (l : ℕ) (m : Mode) → Refers g (Throw l) → (o : Option ℕ) → recovers_lem g l m ≡ o → may_recovery s o ≡ true → Nullable g m (Throw l)
     may_recovery_holds b l m h None p t = let z : ◌≡◌ {A = ℕ} 0 1 = cc in absurd (omega arith)
-    may_recovery_holds b l m h (Some e) p t = by_recovery p (b e On (recovery_low g l m e h p) t)
+    may_recovery_holds b l m h (Some e) p t = by_recovery p (b e On (h e (recovers_on g l e m p)) t)
 
     may_holds : Backed g s MayMatchNothing → (x : Expr) (m : Mode) → Refers g x → may g s x m ≡ true → Nullable g m x
     may_holds b Empty m h t = by_empty
@@ -50,29 +49,24 @@ module _ (g : Peg) (whole : Whole g) where
     may_holds b (Predicate a) m h t = by_predicate
     may_holds b (Throw l) m h t = may_recovery_holds b l m h (recovers_lem g l m) refl t
 
-    -- all that may match nothing is marked
-    abbrev AllMarked : Type 0
-    AllMarked = (e : ℕ) (m : Mode) → e < g.N → Nullable g m (g.expr e) → s MayMatchNothing e m ≡ true
-
-    -- where walks from the leading parts are to end, they are marked so
-    pub ends_leads : AllMarked → {x : Expr} {m : Mode} {e : ℕ} {m' : Mode} → Leads g x m e m' → Refers g x → ends g s x m ≡ true → s WalksEnd e m' ≡ true
-    ends_leads all to_body h t = t
-    ends_leads all (to_first {m = m} {a = a} {b = b}) h t = (and_parts (s WalksEnd a m) _ t).0
-    ends_leads all (past_first {m = m} {a = a} {b = b} n) h t =
+    ends_leads : Right g s → {x : Expr} {m : Mode} {e : ℕ} {m' : Mode} → Leads g x m e m' → Refers g x → ends g s x m ≡ true → s WalksEnd e m' ≡ true
+    ends_leads r to_body h t = t
+    ends_leads r (to_first {m = m} {a = a} {b = b}) h t = (and_parts (s WalksEnd a m) _ t).0
+    ends_leads r (past_first {m = m} {a = a} {b = b} n) h t =
         elim (or_cases (not (s MayMatchNothing a m)) (s WalksEnd b m) (and_parts (s WalksEnd a m) _ t).1) [
-          | inl p ↦ absurd (both_ways (s MayMatchNothing a m) (not-true _ p) (all a m h.0 n))
+          | inl p ↦ absurd (both_ways (s MayMatchNothing a m) (not-true _ p) (r.all_marks a m h.0 n))
           | inr p ↦ p
         ]
-    ends_leads all (to_one {m = m} {a = a} {b = b}) h t = (and_parts (s WalksEnd a m) (s WalksEnd b m) t).0
-    ends_leads all (to_other {m = m} {a = a} {b = b}) h t = (and_parts (s WalksEnd a m) (s WalksEnd b m) t).1
-    ends_leads all to_part h t = t
-    ends_leads all to_inside h t = t
-    ends_leads all (to_recovery p) h t = sym (ap (ends_recovery s) p) ∙ t
+    ends_leads r (to_one {m = m} {a = a} {b = b}) h t = (and_parts (s WalksEnd a m) (s WalksEnd b m) t).0
+    ends_leads r (to_other {m = m} {a = a} {b = b}) h t = (and_parts (s WalksEnd a m) (s WalksEnd b m) t).1
+    ends_leads r to_part h t = t
+    ends_leads r to_inside h t = t
+    ends_leads r (to_recovery p) h t = sym (ap (ends_recovery s) p) ∙ t
 
     -- a mark that is due holds
     pub due_holds : (f : Fact) → Ready g s f → Backed g s f → (e : ℕ) (m : Mode) → e < g.N → due g s f (g.expr e) m ≡ true → Holds g f e m
     due_holds MayMatchNothing r b e m l t = may_holds b (g.expr e) m (whole.1 e l) t
-    due_holds WalksEnd r b e m l t = halts (λ e' m' d. b e' m' (leads_low d (whole.1 e l)) (ends_leads r.all_marks d (whole.1 e l) t))
+    due_holds WalksEnd r b e m l t = halts (λ e' m' d. b e' m' (leads_low d (whole.1 e l)) (ends_leads r d (whole.1 e l) t))
 
     -- what may match nothing is marked, once no mark is missing
     nullable_may : Complete g s MayMatchNothing → {m : Mode} {x : Expr} → Nullable g m x → Refers g x → may g s x m ≡ true
@@ -85,14 +79,11 @@ module _ (g : Peg) (whole : Whole g) where
     nullable_may c {m} (by_first {a = a} {b = b} d) h = or_left _ _ (c a m h.0 (nullable_may c d (whole.1 a h.0)))
     nullable_may c {m} (by_second {a = a} {b = b} d) h = or_right _ _ (c b m h.1 (nullable_may c d (whole.1 b h.1)))
     nullable_may c {m} (by_recovery {l = l} {e = e} p d) h =
-        let low : e < g.N = recovery_low g l m e h p in
+        let low : e < g.N = h e (recovers_on g l e m p) in
         ap (may_recovery s) p ∙ c e On low (nullable_may c d (whole.1 e low))
 
-    pub all_marked : Complete g s MayMatchNothing → AllMarked
-    all_marked c e m l n = c e m l (nullable_may c n (whole.1 e l))
-
     right : Backed g s MayMatchNothing → Complete g s MayMatchNothing → Right g s
-    right b c = record { true_marks = b; all_marks = all_marked c }
+    right b c = record { true_marks = b; all_marks = λ e m l n. c e m l (nullable_may c n (whole.1 e l)) }
 
     -- an unmarked expression has an unmarked leading part
     abbrev Onward : Expr → Mode → Type 0

@@ -8,7 +8,7 @@ use Rattle.grammar.specs.declared.fault.FormFault.{FormFault}
 use Rattle.grammar.specs.declared.fault.FormFault.TheVariants.{Work as ofWork, EmptyRepetition, EndlessWalk}
 use Rattle.grammar.specs.declared.part.Part.{Part}
 use Rattle.grammar.specs.declared.part.Part.TheVariants.{Header, Rule, Label, Set, Expression}
-use Rattle.grammar.specs.Words.{kind, field_a, field_b, field_c, set_bits, Peg, meaning}
+use Rattle.grammar.specs.Words.{kind, field_a, field_b, field_c, Peg, meaning}
 use Rattle.grammar.specs.Form.{Nullable, Endless}
 use Rattle.grammar.specs.Faults.{Report, right, wrong}
 
@@ -89,7 +89,7 @@ abbrev pub formed_as : Part → ℕ → ℕ → Bool
 formed_as Header l w = true
 formed_as Rule l w = kind w == 9 && (is_zero (field_b w) && is_zero (field_c w))
 formed_as Label l w = kind w == 10 && (is_zero (field_c w) && formed_label (field_b w) (field_a w))
-formed_as Set l w = kind w == 11 && nat_lt (set_bits w) (2 ^ (l + 1))
+formed_as Set l w = kind w == 11 && nat_lt (w % 2 ^ 28) (2 ^ (l + 1))
 formed_as (Expression e) l w = formed_kind (kind w) (field_a w) (field_b w) (field_c w)
 
 -- what expression e names is there, and its operands are lower
@@ -155,7 +155,7 @@ WordAtFault ws No w = (e : ℕ) × (e < (meaning ws).N) × (w ≡ word_of ws e) 
 abbrev pub Hollow : List ℕ → ℕ → Type 0
 Hollow ws = WordAtFault ws (HollowAt (meaning ws))
 
--- an expression from which some walk to leading parts is endless, in either mode
+-- an expression from which a walk to leading parts can go on for ever, in either mode
 abbrev pub EndlessAt : Peg → ℕ → Type 0
 EndlessAt g e = (m : Mode) × Endless g e m
 

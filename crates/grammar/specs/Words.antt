@@ -1,6 +1,5 @@
 -- A grammar's row of words, and what it means.
-use Rattle.std.specs.Prelude.{ℕ, zero, suc, ◌+◌, ◌-◌, ◌/◌, ◌%◌, ◌^◌, Bool, List, length, Some, None, Option, ◌==◌, slice_index, slice_index_or}
-use Rattle.grammar.specs.declared.accepted.Counts.{Counts}
+use Rattle.std.specs.Prelude.{ℕ, zero, suc, ◌+◌, ◌-◌, ◌*◌, ◌/◌, ◌%◌, ◌^◌, Bool, true, false, cond, List, [], ◌∷◌, length, Some, None, Option, ◌==◌, slice_index, slice_index_or}
 use Rattle.grammar.specs.declared.expr.Expr.{Expr}
 use Rattle.grammar.specs.declared.expr.Expr.TheVariants.{Empty, Terminal, Call, Sequence, Choice, Repetition, Predicate, Throw}
 
@@ -19,10 +18,6 @@ field_b w = w / 2 ^ 8 % 2 ^ 10
 -- bits 7 to 0
 abbrev pub field_c : ℕ → ℕ
 field_c w = w % 2 ^ 8
-
--- bits 27 to 0: a set of labels
-abbrev pub set_bits : ℕ → ℕ
-set_bits w = w % 2 ^ 28
 
 -- bit l of a set of labels or marks
 abbrev pub bit : ℕ → ℕ → Bool
@@ -81,10 +76,6 @@ meaning ws =
       S = length ws - (1 + r + l + n);
       body = λ k. field_a (slice_index ws (1 + k));
       recovery = λ k. recovery_of (slice_index ws (r + k));
-      catches = λ s k. bit (set_bits (slice_index ws (1 + r + l + s))) k;
+      catches = λ s k. bit (slice_index ws (1 + r + l + s)) k;
       expr = λ e. expression (slice_index ws (length ws - n + e));
     }
-
--- how many of each a grammar has
-abbrev pub counts_of : Peg → Counts
-counts_of g = record { expressions = g.N; rules = g.R; labels = g.L; sets = g.S }

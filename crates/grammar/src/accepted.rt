@@ -1,7 +1,7 @@
 //! An accepted grammar, and the check by which a row of words becomes one.
 ghost use Rattle.std.specs.Prelude.{◌≡◌, ℕ, ◌*◌, ◌<◌, ◌≤◌, true, false, ◌↔◌, [], ◌∷◌, length, is_ok, MatchResult};
 ghost use Rattle.grammar.specs.declared.expr.Mode.TheVariants.{On, Off};
-ghost use Rattle.grammar.specs.Words.{meaning, counts_of};
+ghost use Rattle.grammar.specs.Words.{meaning};
 ghost use Rattle.grammar.specs.Faults.{Report, report};
 ghost use Rattle.grammar.specs.Questions.{Accepted, Counted, Headed, Never, Misformed, Misnamed, Hollow, Unending, Reported, Tells, work_left};
 ghost use Rattle.grammar.specs.Marks.{Mask, Judged, NullableRule};
@@ -35,15 +35,6 @@ pub struct Grammar<'a> {
     ghost ending: { Never (Unending words.now) },
     ghost mask_on: { ∥ Mask (meaning words.now) On on ∥₁ },
     ghost mask_off: { ∥ Mask (meaning words.now) Off off ∥₁ },
-}
-
-/// How many of each a grammar has: N, R, L and S.
-#[derive(Clone, Copy, PartialEq, Eq, Debug)]
-pub struct Counts {
-    pub expressions: usize,
-    pub rules: usize,
-    pub labels: usize,
-    pub sets: usize,
 }
 
 /// Asks all questions of a row; gives the rules that may match nothing, in mode on and in mode off.
@@ -91,16 +82,32 @@ impl<'a> Grammar<'a> {
         }
     }
 
-    /// How many expressions, rules, labels and sets it has.
-    pub fn counts(&self) -> Counts
-        ensures { result ≡ counts_of (meaning self.now.words.now) }
+    /// N, the number of expressions.
+    pub fn expressions(&self) -> usize
+        ensures { result ≡ (meaning self.now.words.now).N }
     {
-        Counts {
-            expressions: expressions_of(self.words),
-            rules: rules_of(self.words),
-            labels: labels_of(self.words),
-            sets: sets_of(self.words),
-        }
+        expressions_of(self.words)
+    }
+
+    /// R, the number of rules.
+    pub fn rules(&self) -> usize
+        ensures { result ≡ (meaning self.now.words.now).R }
+    {
+        rules_of(self.words)
+    }
+
+    /// L, the number of labels.
+    pub fn labels(&self) -> usize
+        ensures { result ≡ (meaning self.now.words.now).L }
+    {
+        labels_of(self.words)
+    }
+
+    /// S, the number of sets.
+    pub fn sets(&self) -> usize
+        ensures { result ≡ (meaning self.now.words.now).S }
+    {
+        sets_of(self.words)
     }
 
     /// An expression by its number; beyond the last, the empty one.
@@ -110,21 +117,21 @@ impl<'a> Grammar<'a> {
         expr_of(self.words, number)
     }
 
-    /// The body of a rule; beyond the last rule, a number without meaning.
+    /// The body of a rule.
     pub fn body(&self, rule: usize) -> usize
         ensures { result ≡ (meaning self.now.words.now).body rule }
     {
         body_of(self.words, rule)
     }
 
-    /// The recovery expression of a label, if it has one; an answer without meaning for a number that is no label's.
+    /// The recovery expression of a label, if it has one.
     pub fn recovery(&self, label: usize) -> Option<usize>
         ensures { result ≡ (meaning self.now.words.now).recovery label }
     {
         recovery_of(self.words, label)
     }
 
-    /// Whether a set holds a label; an answer without meaning beyond the last set, or above label 27.
+    /// Whether a set holds a label.
     pub fn catches(&self, set: usize, label: usize) -> bool
         ensures { result ≡ (meaning self.now.words.now).catches set label }
     {

@@ -8,7 +8,7 @@ pub enum Mode {
 }
 
 /// An expression; parts are named by their numbers.
-#[derive(Clone, Copy)]
+#[derive(Clone, Copy, PartialEq, Eq, Debug)]
 pub enum Expr {
     /// Matches nothing, everywhere.
     Empty,

@@ -1,10 +1,10 @@
 //! The check's last layer: what may match nothing, and walks to leading parts that never end.
-ghost use Rattle.std.specs.Prelude.{◌≡◌, ◌*◌, ◌<◌, ◌≤◌, false, length, replicate, MatchOption, MatchResult};
+ghost use Rattle.std.specs.Prelude.{◌≡◌, ℕ, ◌*◌, ◌<◌, ◌≤◌, false, length, replicate, MatchOption, MatchResult};
 ghost use Rattle.grammar.specs.declared.expr.Mode.{Mode};
 ghost use Rattle.grammar.specs.declared.expr.Mode.TheVariants.{On, Off};
-ghost use Rattle.grammar.specs.Words.{meaning};
+ghost use Rattle.grammar.specs.Words.{bit, meaning};
 ghost use Rattle.grammar.specs.Form.{recovers_lem, Whole};
-ghost use Rattle.grammar.specs.Questions.{Never, Lowest, WordAtFault, WorkPasses, FormPasses, FormFails};
+ghost use Rattle.grammar.specs.Questions.{Never, Lowest, Tells, WordAtFault, WorkPasses, FormPasses, FormFails};
 ghost use Rattle.grammar.specs.Faults.{form_report};
 ghost use Rattle.grammar.specs.Marks.{mark, may, ends, due, Backed, Complete, Ready, Same, other, Grew, Tried, Decided, Blank, FaultAt, faulty, Right, Mask};
 

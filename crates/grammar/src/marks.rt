@@ -1,5 +1,5 @@
 //! What the check marks of expressions, in the work words that it is lent: four yes/no facts of each.
-ghost use Rattle.std.specs.Prelude.{◌≡◌, ◌+◌, ◌*◌, ◌<◌, length, replicate};
+ghost use Rattle.std.specs.Prelude.{◌≡◌, ℕ, ◌+◌, ◌*◌, ◌<◌, ◌≤◌, length, replicate};
 ghost use Rattle.grammar.specs.Marks.{mark, fact_bit, mode_bit, Marked};
 
 use crate::expr::Mode;

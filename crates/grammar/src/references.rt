@@ -1,7 +1,7 @@
 //! The check's second and third layers: what words name, and the memory lent to the check.
-ghost use Rattle.std.specs.Prelude.{◌≡◌, ◌<◌, MatchResult};
+ghost use Rattle.std.specs.Prelude.{◌≡◌, ℕ, ◌<◌, ◌≤◌, length, MatchResult};
 ghost use Rattle.grammar.specs.Words.{kind, field_a, field_b, field_c, meaning};
-ghost use Rattle.grammar.specs.Questions.{named_kind, named_as, ReferencesPass, ReferencesFail, WorkPasses, WorkFails};
+ghost use Rattle.grammar.specs.Questions.{named_kind, named_as, named, ReferencesPass, ReferencesFail, WorkPasses, WorkFails};
 ghost use Rattle.grammar.specs.Faults.{reference_report, work_report};
 
 use crate::fault::{ReferenceFault, WorkFault};

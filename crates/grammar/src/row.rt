@@ -1,11 +1,11 @@
 //! Reads any row of words as a grammar, whether it is one or not.
-ghost use Rattle.std.specs.Prelude.{◌≡◌, ◌+◌, ◌-◌, ◌<◌, slice_index};
+ghost use Rattle.std.specs.Prelude.{◌≡◌, ℕ, ◌+◌, ◌-◌, ◌^◌, ◌<◌, ◌≤◌, length, slice_index};
 ghost use Rattle.grammar.specs.Words.{meaning};
 ghost use Rattle.grammar.specs.Questions.{part_of};
 
 use crate::expr::Expr;
 use crate::part::Part;
-use crate::word::{a_of, b_of, c_of, expression_of, holds, set_of};
+use crate::word::{a_of, b_of, c_of, expression_of, holds};
 
 /// The word at base + offset, and 0 beyond the end.
 pub(crate) fn word_at(words: &[u32], base: usize, offset: usize) -> u32
@@ -72,8 +72,10 @@ pub(crate) fn recovery_of(words: &[u32], label: usize) -> Option<usize>
 pub(crate) fn catches_in(words: &[u32], set: usize, label: usize) -> bool
     ensures { result ≡ (meaning words.now).catches set label }
 {
-    let word = word_at(words, 1 + rules_of(words) + labels_of(words), set);
-    holds(set_of(word), label)
+    holds(
+        word_at(words, 1 + rules_of(words) + labels_of(words), set),
+        label,
+    )
 }
 
 /// An expression by its number.

@@ -1,6 +1,6 @@
 //! The fields of one word, by shift and mask.
-ghost use Rattle.std.specs.Prelude.{◌≡◌, ◌<◌};
-ghost use Rattle.grammar.specs.Words.{kind, field_a, field_b, field_c, set_bits, bit, expression};
+ghost use Rattle.std.specs.Prelude.{◌≡◌, ℕ, ◌^◌, ◌<◌};
+ghost use Rattle.grammar.specs.Words.{kind, field_a, field_b, field_c, bit, expression};
 
 use crate::expr::Expr;
 
@@ -30,13 +30,6 @@ pub(crate) fn c_of(word: u32) -> u32
     ensures { result ≡ field_c word }
 {
     word & 0xff
-}
-
-/// Bits 27 to 0, a set of labels.
-pub(crate) fn set_of(word: u32) -> u32
-    ensures { result ≡ set_bits word }
-{
-    word & 0x0fff_ffff
 }
 
 /// Whether a set of labels or marks holds this one.

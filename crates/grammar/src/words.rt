@@ -1,13 +1,13 @@
 //! The check's first layer: each word by itself.
-ghost use Rattle.std.specs.Prelude.{◌≡◌, ◌<◌, ◌≤◌, length, MatchResult};
-ghost use Rattle.grammar.specs.Words.{kind, field_a, field_b, field_c};
-ghost use Rattle.grammar.specs.Questions.{Headed, Tells, formed_kind, formed_label, formed_as, WordsPass, WordsFail};
+ghost use Rattle.std.specs.Prelude.{◌≡◌, ℕ, ◌<◌, ◌≤◌, length, MatchResult};
+ghost use Rattle.grammar.specs.Words.{kind, field_a, field_b, field_c, meaning};
+ghost use Rattle.grammar.specs.Questions.{Headed, Tells, formed_kind, formed_label, formed_as, formed, WordsPass, WordsFail};
 ghost use Rattle.grammar.specs.Faults.{word_report};
 
 use crate::fault::WordFault;
 use crate::part::Part;
 use crate::row::{expressions_of, labels_of, part_at, rules_of};
-use crate::word::{a_of, b_of, c_of, kind_of, set_of};
+use crate::word::{a_of, b_of, c_of, kind_of};
 
 pub const FEWEST_WORDS: usize = 3;
 
@@ -91,7 +91,7 @@ fn word_formed(part: Part, labels: usize, word: u32) -> bool
         Part::Header => true,
         Part::Rule => kind_of(word) == RULE && b_of(word) == 0 && c_of(word) == 0,
         Part::Label => kind_of(word) == LABEL && c_of(word) == 0 && label_formed(word),
-        Part::Set => kind_of(word) == SET && set_of(word) < (1 << (labels + 1)),
+        Part::Set => kind_of(word) == SET && (word & 0x0fff_ffff) < (1 << (labels + 1)),
         Part::Expression { number: _ } => expression_formed(word),
     }
 }

@@ -6,7 +6,7 @@ use grammar::fault::Place;
 use std::alloc::{AllocError, Global};
 
 /// Where the check of a row finds a fault, with so many work words lent.
-fn fault(heap: Global, words: &[u32], lent: usize) -> Result<Option<Place>, AllocError> {
+pub fn fault(heap: Global, words: &[u32], lent: usize) -> Result<Option<Place>, AllocError> {
     let mut work = vec![in heap; 7u32; lent]?;
     let mut grammar = Grammar::smallest();
     match check(words, &mut work, &mut grammar) {
@@ -16,7 +16,7 @@ fn fault(heap: Global, words: &[u32], lent: usize) -> Result<Option<Place>, Allo
 }
 
 /// A row of so many rules, labels, sets and empty expressions, well formed where the numbers are.
-fn plain(heap: Global, n: u32, r: u32, l: u32, s: u32) -> Result<Vec<u32>, AllocError> {
+pub fn plain(heap: Global, n: u32, r: u32, l: u32, s: u32) -> Result<Vec<u32>, AllocError> {
     let mut words = Vec::new(heap);
     let header = 0x8000_0000u32 | (n & 0x3ff) << 18 | (r & 0x3ff) << 8 | l & 0xff;
     words.push(header)?;

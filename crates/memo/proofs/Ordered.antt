@@ -3,13 +3,11 @@ use Rattle.std.proofs.Common.{◌≡◌, ℕ, zero, suc, ◌+◌, ◌<◌, ◌�
 use Rattle.std.proofs.lemmas.List.{drop_more, drop_all, take_more, take_more_set, take_all, take_at, take-append-drop, drop-take, drop-drop, drop-set-lt, get_or-drop, length-take, length-take-le, length-append, take-take, append-nil}
 use Rattle.std.proofs.lemmas.Bool.{cases_Bool, and_parts, and_from, not-true, ltb-true, eqb-true, eq-eqb, lt-ltb, cond-true, cond-false}
 use Rattle.grammar.specs.declared.expr.Mode.{Mode}
-use Rattle.grammar.specs.declared.expr.Mode.TheVariants.{On}
+use Rattle.grammar.specs.declared.expr.Mode.TheVariants.{On, Off}
 use Rattle.memo.specs.declared.row.Row.{Row}
 use Rattle.memo.specs.declared.entries.Entry.{Entry}
 use Rattle.memo.specs.Tables.{Same}
-use Rattle.peg.specs.Counting.{same_mode}
-use Rattle.peg.proofs.Counting.{same_mode_so, same_mode_refl}
-use Rattle.memo.specs.Entries.{names, found, holds, lawful, without, entered, rehomed, at_place, shifted}
+use Rattle.memo.specs.Entries.{same_mode, names, found, holds, lawful, without, entered, rehomed, at_place, shifted}
 
 -- an entry of zeros, where none is
 abbrev pub nothing : Entry
@@ -41,15 +39,25 @@ module _ (r i : ℕ) (o : Mode) where
   pub found_all : (es : List Entry) (n : ℕ) → length es ≤ n → found (drop n es) r i o ≡ None
   found_all es n h = ap (λ (xs : List Entry). found xs r i o) (drop_all n es h)
 
+same_mode_is : (a b : Mode) → same_mode a b ≡ true → a ≡ b
+same_mode_is On On e = refl
+same_mode_is Off Off e = refl
+same_mode_is On Off e = let z : ◌≡◌ {A = ℕ} 0 1 = cc in absurd (omega arith)
+same_mode_is Off On e = let z : ◌≡◌ {A = ℕ} 0 1 = cc in absurd (omega arith)
+
+same_mode_self : (a : Mode) → same_mode a a ≡ true
+same_mode_self On = refl
+same_mode_self Off = refl
+
 pub names_is : (e : Entry) (r i : ℕ) (o : Mode) → names e r i o ≡ true → Same e.rule e.place e.mode r i o
 names_is e r i o t =
     let a = and_parts (eqb e.rule r) (eqb e.place i && same_mode e.mode o) t in
     let b = and_parts (eqb e.place i) (same_mode e.mode o) a.1 in
-    (eqb-true e.rule r a.0, eqb-true e.place i b.0, same_mode_so e.mode o b.1)
+    (eqb-true e.rule r a.0, eqb-true e.place i b.0, same_mode_is e.mode o b.1)
 
 pub names_same : (e : Entry) (r i : ℕ) (o : Mode) → Same e.rule e.place e.mode r i o → names e r i o ≡ true
 names_same e r i o s =
-    and_from _ _ (eq-eqb e.rule r s.0) (and_from _ _ (eq-eqb e.place i s.1) (rw s.2 (same_mode_refl o)))
+    and_from _ _ (eq-eqb e.rule r s.0) (and_from _ _ (eq-eqb e.place i s.1) (rw s.2 (same_mode_self o)))
 
 pub none_of : {A : Type 0} (x : Option A) → is_some x ≡ false → x ≡ None
 none_of None e = refl

@@ -3,7 +3,7 @@ use Rattle.std.proofs.Common.{◌≡◌, ℕ, ◌+◌, ◌-◌, ◌*◌, ◌/◌
 use Rattle.std.proofs.lemmas.Bool.{cases_lt, cases_order, cases_Bool, lt-ltb, le-ltb, le-leb, leb-true, and_right}
 use Rattle.grammar.specs.declared.expr.Mode.{Mode}
 use Rattle.memo.specs.declared.row.Row.{Row}
-use Rattle.memo.specs.Tables.{Same, Empty, Puts, Shifts}
+use Rattle.memo.specs.Tables.{Same, Within, Empty, Puts, Shifts}
 use Rattle.memo.specs.Layout.{slot_row, Written, slot, rows, stays, Comes, After}
 use Rattle.memo.proofs.Packing.{unpacked_none}
 use Rattle.memo.proofs.Keys.{slot_same, slot_below, slot_place, slot_lane}
@@ -38,6 +38,9 @@ rows_same ws vs P Q r i o h =
       | inl l ↦ rows_in vs P Q r i o l.0 l.1 ∙ h l.0 l.1 ∙ sym (rows_in ws P Q r i o l.0 l.1)
       | inr l ↦ rows_out vs P Q r i o l ∙ sym (rows_out ws P Q r i o l)
     ]
+
+pub rows_within : (ws : List ℕ) (P Q : ℕ) → Within P Q (rows ws P Q)
+rows_within ws P Q r i o h = rows_out ws P Q r i o h
 
 -- words that are zero hold no row
 pub empty_at : (ws : List ℕ) (P Q : ℕ) → ((u : ℕ) → u < 16 * (P * Q) → get_or ws u 0 ≡ 0) → Empty (rows ws P Q)

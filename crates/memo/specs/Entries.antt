@@ -1,10 +1,16 @@
 -- The ring by its entries, the one put last first: what a put and a shift make of them, and the table that follows from them.
-use Rattle.std.specs.Prelude.{◌≡◌, ℕ, ◌+◌, ◌-◌, ◌<◌, Bool, true, cond, not, ◌&&◌, ◌⊎◌, List, [], ◌∷◌, length, take, is_some, Some, None, Option, ◌==◌, nat_le, nat_lt}
+use Rattle.std.specs.Prelude.{◌≡◌, ℕ, ◌+◌, ◌-◌, ◌<◌, Bool, true, false, cond, not, ◌&&◌, ◌⊎◌, List, [], ◌∷◌, length, take, is_some, Some, None, Option, ◌==◌, nat_le, nat_lt}
 use Rattle.grammar.specs.declared.expr.Mode.{Mode}
-use Rattle.peg.specs.Counting.{same_mode}
+use Rattle.grammar.specs.declared.expr.Mode.TheVariants.{On, Off}
 use Rattle.memo.specs.declared.row.Row.{Row}
 use Rattle.memo.specs.declared.entries.Entry.{Entry}
 use Rattle.memo.specs.Tables.{Table}
+
+abbrev pub same_mode : Mode → Mode → Bool
+same_mode On On = true
+same_mode On Off = false
+same_mode Off On = false
+same_mode Off Off = true
 
 -- the entry is of this key
 abbrev pub names : Entry → ℕ → ℕ → Mode → Bool

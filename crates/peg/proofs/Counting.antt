@@ -14,13 +14,13 @@ never : {A : Type 0} → ◌≡◌ {A = ℕ} 0 1 → A
 never e = let b : ⊥ = omega arith in absurd b
 
 -- the test finds what is in the list
-pub same_mode_so : (a b : Mode) → same_mode a b ≡ true → a ≡ b
+same_mode_so : (a b : Mode) → same_mode a b ≡ true → a ≡ b
 same_mode_so On On e = refl
 same_mode_so On Off e = never (cc)
 same_mode_so Off On e = never (cc)
 same_mode_so Off Off e = refl
 
-pub same_mode_refl : (a : Mode) → same_mode a a ≡ true
+same_mode_refl : (a : Mode) → same_mode a a ≡ true
 same_mode_refl On = refl
 same_mode_refl Off = refl
 

@@ -1,5 +1,5 @@
 -- Edits: what was given before stands, and what was given behind moves along.
-use Rattle.std.proofs.Common.{◌≡◌, ℕ, ◌+◌, ◌-◌, ◌<◌, ◌≤◌, Bool, List, length, sym, ap, ◌∙◌, arith}
+use Rattle.std.proofs.Common.{◌≡◌, ℕ, zero, suc, ◌+◌, ◌-◌, ◌<◌, ◌≤◌, Bool, List, [], ◌∷◌, ◌++◌, length, take, drop, sym, refl, ap, ◌∙◌, le_of_suc-le-suc, not-suc-le-zero, suc-add, zero-add, arith, take-append-drop, length-take-le}
 use Rattle.grammar.specs.declared.expr.Mode.{Mode}
 use Rattle.grammar.specs.declared.expr.Expr.{Expr}
 use Rattle.grammar.specs.Words.{Peg}
@@ -7,18 +7,43 @@ use Rattle.peg.specs.Results.{Given}
 use Rattle.peg.specs.Rules.{Text, Gives, RuleGives}
 use Rattle.peg.specs.Rules.{as_its_body}
 use Rattle.text.specs.Meaning.{accepted, replaced}
-use Rattle.text.proofs.Laws.{accepted_before, accepted_moved}
 use Rattle.peg.specs.declared.results.Reading.{Reading}
 use Rattle.peg.specs.Moves.{moved, shift, Agree}
 use Rattle.peg.specs.Rows.{RowOf}
-use Rattle.peg.specs.Edits.{along, Edited, Edits}
+use Rattle.peg.specs.Edits.{along, Replaces, Edited, Edits}
 use Rattle.peg.proofs.Moves.{local, rule_local, in_place}
 use Rattle.peg.proofs.Rows.{row_again}
 
--- k elements at p of the text t become m in the text u: all before and behind them is the same
-pub record Replaces (t u : Text) (p k m : ℕ) : Type 0 where
-  pub before : (a b i : ℕ) → i < p → t a b i ≡ u a b i
-  pub behind : (a b i : ℕ) → p + k ≤ i → t a b i ≡ u a b (along p k m i)
+module _ {E : Type 0} (fits : ℕ → ℕ → E → Bool) (a b : ℕ) where
+  accepted_before : (xs ys zs : List E) (i : ℕ) → i < length xs → accepted fits (xs ++ ys) a b i ≡ accepted fits (xs ++ zs) a b i
+  accepted_before [] ys zs i h = absurd (not-suc-le-zero h)
+  accepted_before (x ∷ xs) ys zs zero h = refl
+  accepted_before (x ∷ xs) ys zs (suc i) h = accepted_before xs ys zs i (le_of_suc-le-suc h)
+
+  accepted_behind : (xs ys : List E) (i : ℕ) → accepted fits (xs ++ ys) a b (length xs + i) ≡ accepted fits ys a b i
+  accepted_behind [] ys i = rw zero-add
+  accepted_behind (x ∷ xs) ys i = rw suc-add (accepted_behind xs ys i)
+
+  -- the elements at q and later
+  accepted_drop : (q : ℕ) (xs : List E) (i : ℕ) → q ≤ length xs → accepted fits (drop q xs) a b i ≡ accepted fits xs a b (q + i)
+  accepted_drop q xs i h =
+      sym (accepted_behind (take q xs) (drop q xs) i)
+      ∙ ap (λ zs. accepted fits zs a b (length (take q xs) + i)) (take-append-drop q xs)
+      ∙ ap (λ n. accepted fits xs a b (n + i)) (length-take-le q xs h)
+
+  edit_before : (xs : List E) (p k : ℕ) (ys : List E) (i : ℕ) → p + k ≤ length xs → i < p → accepted fits xs a b i ≡ accepted fits (replaced xs p k ys) a b i
+  edit_before xs p k ys i h l =
+      let q : i < length (take p xs) = omega (arith, length-take-le p xs (omega arith)) in
+      ap (λ zs. accepted fits zs a b i) (sym (take-append-drop p xs)) ∙ accepted_before (take p xs) (drop p xs) (ys ++ drop (p + k) xs) i q
+
+  edit_behind : (xs : List E) (p k : ℕ) (ys : List E) (d : ℕ) → p + k ≤ length xs
+      → accepted fits xs a b (p + k + d) ≡ accepted fits (replaced xs p k ys) a b (p + length ys + d)
+  edit_behind xs p k ys d h =
+      let q : p + length ys + d ≡ length (take p xs) + (length ys + d) = omega (arith, length-take-le p xs (omega arith)) in
+      sym (accepted_drop (p + k) xs d h)
+      ∙ sym (accepted_behind ys (drop (p + k) xs) d)
+      ∙ sym (accepted_behind (take p xs) (ys ++ drop (p + k) xs) (length ys + d))
+      ∙ ap (λ n. accepted fits (replaced xs p k ys) a b n) (sym q)
 
 shift_behind : (a b p : ℕ) → a ≤ p → (d : ℕ) × (p ≡ a + d) × (shift a b p ≡ b + d)
 unfolding shift
@@ -28,10 +53,10 @@ shift_behind a b p h = (p - a, omega arith, omega arith)
 pub replaces : {E : Type 0} (fits : ℕ → ℕ → E → Bool) (xs : List E) (p k : ℕ) (ys : List E) → p + k ≤ length xs
     → Replaces (accepted fits xs) (accepted fits (replaced xs p k ys)) p k (length ys)
 replaces fits xs p k ys h = record {
-  before = λ a b i l. sym (accepted_before fits xs p k ys a b i (omega arith) l);
+  before = λ a b i l. edit_before fits a b xs p k ys i h l;
   behind = λ a b i l.
       let q = shift_behind (p + k) (p + length ys) i l in
-      ap (accepted fits xs a b) q.1 ∙ sym (accepted_moved fits xs p k ys a b q.0 (omega arith)) ∙ ap (accepted fits (replaced xs p k ys) a b) (sym q.2);
+      ap (accepted fits xs a b) q.1 ∙ edit_behind fits a b xs p k ys q.0 h ∙ ap (accepted fits (replaced xs p k ys) a b) (sym q.2);
 }
 
 pub along_is : (p k m i j : ℕ) → p + k ≤ i → j + k ≡ i + m → along p k m i ≡ j

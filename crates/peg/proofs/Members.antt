@@ -49,3 +49,8 @@ pub in_map : {A B : Type 0} (f : A → B) (z : B) (xs : List A) → In z (map f 
 in_map f z [] h = elim h [ ]
 in_map f z (x ∷ xs) (inl e) = (x, inl refl, e)
 in_map f z (x ∷ xs) (inr h) = let q = in_map f z xs h in (q.0, inr q.1, q.2)
+
+pub map_in : {A B : Type 0} (f : A → B) (y : A) (xs : List A) → In y xs → In (f y) (map f xs)
+map_in f y [] h = elim h [ ]
+map_in f y (x ∷ xs) (inl e) = inl (ap f e)
+map_in f y (x ∷ xs) (inr h) = inr (map_in f y xs h)

@@ -1,19 +1,22 @@
 -- What the check reports of a row, by computation: given what may match nothing, and a rank that falls along every walk.
 use Rattle.std.proofs.Common.{◌≡◌, ℕ, zero, suc, ◌+◌, ◌*◌, ◌<◌, ◌≤◌, Bool, true, false, not, ◌&&◌, ◌||◌, eqb, ltb, leb, List, length, get_or, sym, refl, ap, ◌∙◌, subst, inl, inr, arith}
-use Rattle.std.proofs.lemmas.Bool.{both_ways, cases_eq, leb-true, ltb-true, eqb-true, and_parts, or_cases, or_left, or_right, not-true}
+use Rattle.std.proofs.lemmas.Bool.{both_ways, cases_eq, leb-true, ltb-true, eqb-true, and_parts, and_from, or_cases, or_left, or_right, not-true}
 use Rattle.grammar.specs.declared.expr.Mode.{Mode}
 use Rattle.grammar.specs.declared.expr.Mode.TheVariants.{On, Off}
 use Rattle.grammar.specs.declared.fault.Layer.TheVariants.{Form}
+use Rattle.grammar.specs.declared.expr.Expr.{Expr}
 use Rattle.grammar.specs.Words.{kind, Peg, meaning}
-use Rattle.grammar.specs.Form.{Nullable, Endless, Refers, Whole}
+use Rattle.grammar.specs.Form.{Nullable, Leads, Endless, Refers, Whole}
+use Rattle.grammar.specs.Form.{by_empty, by_repetition, by_predicate, by_call, by_sequence, by_first, by_second, by_recovery}
+use Rattle.grammar.specs.Form.{to_body, to_first, past_first, to_one, to_other, to_part, to_inside, to_recovery}
 use Rattle.grammar.specs.Faults.{wrong}
 use Rattle.grammar.specs.Questions.{fewest_words, most_words, most_expressions, most_rules, most_labels, most_sets, least_words, Between, Headed, formed, named, word_of, Never, HollowAt, Hollow, EndlessAt, ReferencesPass, FormPasses}
-use Rattle.grammar.specs.Marks.{Marks, fact_bit, may, ends, hollow}
+use Rattle.grammar.specs.Marks.{Marks, fact_bit, may, may_recovery, ends, ends_recovery, hollow}
 use Rattle.grammar.proofs.Referring.{whole}
-use Rattle.grammar.proofs.Settling.{leads_low, all_marked, ends_leads}
 use Rattle.grammar.proofs.Finding.{lowest_word, no_word}
 use Rattle.grammar.proofs.Reporting.{form_reported, right_reported, all_accepted}
 use Rattle.peg.specs.Worked.{Checked, Passes}
+use Rattle.peg.proofs.Walks.{recovery_low, leads_low}
 
 -- a test of every number below n
 abbrev all_below : (ℕ → Bool) → ℕ → Bool
@@ -129,8 +132,21 @@ module _ (g : Peg) (whole : Whole g) (s : ForEach Bool) (all : holds_all g s ≡
   held e m l = if_so (may g (marks s s) (g.expr e) m) (s e m) (all_in_both (held_at g s) g.N all e m l)
 
   -- what may match nothing is in s
+  nullable_may : {m : Mode} {x : Expr} → Nullable g m x → Refers g x → may g (marks s s) x m ≡ true
+  nullable_may by_empty h = refl
+  nullable_may by_repetition h = refl
+  nullable_may by_predicate h = refl
+  nullable_may {m} (by_call {r = r} d) h = held (g.body r) m (whole.0 r h) (nullable_may d (whole.1 (g.body r) (whole.0 r h)))
+  nullable_may {m} (by_sequence {a = a} {b = b} d e) h =
+      and_from (s a m) (s b m) (held a m h.0 (nullable_may d (whole.1 a h.0))) (held b m h.1 (nullable_may e (whole.1 b h.1)))
+  nullable_may {m} (by_first {a = a} {b = b} d) h = or_left (s a m) (s b m) (held a m h.0 (nullable_may d (whole.1 a h.0)))
+  nullable_may {m} (by_second {a = a} {b = b} d) h = or_right (s a m) (s b m) (held b m h.1 (nullable_may d (whole.1 b h.1)))
+  nullable_may {m} (by_recovery {l = l} {e = e} p d) h =
+      let low : e < g.N = recovery_low g l m e h p in
+      ap (may_recovery (marks s s)) p ∙ held e On low (nullable_may d (whole.1 e low))
+
   nullable_in : (e : ℕ) (m : Mode) → e < g.N → Nullable g m (g.expr e) → s e m ≡ true
-  nullable_in = all_marked g whole (marks s s) held
+  nullable_in e m l n = held e m l (nullable_may n (whole.1 e l))
 
   in_either : (a : ℕ) (m : Mode) → s a m ≡ true → (s a On || s a Off) ≡ true
   in_either a On t = or_left (s a On) (s a Off) t
@@ -142,11 +158,22 @@ module _ (g : Peg) (whole : Whole g) (s : ForEach Bool) (all : holds_all g s ≡
       both_ways (hollow (marks s s) (g.expr e)) (not-true (hollow (marks s s) (g.expr e)) (all_so (firm_at g s) n t e l))
       (ap (hollow (marks s s)) h.repeats ∙ in_either h.part h.mode (nullable_in h.part h.mode part h.nullable))
 
+  -- a leading part is among those from which walks end
+  leads_in : (w : ForEach Bool) {x : Expr} {m : Mode} {e : ℕ} {m' : Mode} → Leads g x m e m' → Refers g x → ends g (marks s w) x m ≡ true → w e m' ≡ true
+  leads_in w to_body h t = t
+  leads_in w (to_first {m = m} {a = a} {b = b}) h t = (and_parts (w a m) (not (s a m) || w b m) t).0
+  leads_in w (past_first {m = m} {a = a} {b = b} n) h t = if_so (s a m) (w b m) (and_parts (w a m) (not (s a m) || w b m) t).1 (nullable_in a m h.0 n)
+  leads_in w (to_one {m = m} {a = a} {b = b}) h t = (and_parts (w a m) (w b m) t).0
+  leads_in w (to_other {m = m} {a = a} {b = b}) h t = (and_parts (w a m) (w b m) t).1
+  leads_in w to_part h t = t
+  leads_in w to_inside h t = t
+  leads_in w (to_recovery p) h t = sym (ap (ends_recovery (marks s w)) p) ∙ t
+
   -- an endless walk would count a rank down for ever
   module _ (rank : ForEach ℕ) (t : falling g s rank ≡ true) {e : ℕ} {m : Mode} (low : e < g.N) (walk : Endless g e m) where
     stays : (k : ℕ) → walk.place k < g.N
     stays zero = subst (λ x. x < g.N) (sym walk.starts) low
-    stays (suc k) = leads_low g whole (walk.goes k) (whole.1 (walk.place k) (stays k))
+    stays (suc k) = leads_low (walk.goes k) whole (whole.1 (walk.place k) (stays k))
 
     abbrev here : ℕ → ℕ
     here k = rank (walk.place k) (walk.mode k)
@@ -154,7 +181,7 @@ module _ (g : Peg) (whole : Whole g) (s : ForEach Bool) (all : holds_all g s ≡
     falls : (k : ℕ) → here (suc k) < here k
     falls k =
         ltb-true (here (suc k)) (here k)
-        (ends_leads g whole (marks s (λ e' m'. ltb (rank e' m') (here k))) nullable_in (walk.goes k) (whole.1 (walk.place k) (stays k))
+        (leads_in (λ e' m'. ltb (rank e' m') (here k)) (walk.goes k) (whole.1 (walk.place k) (stays k))
         (all_in_both (falls_at g s rank) g.N t (walk.place k) (walk.mode k) (stays k)))
 
     fallen : (k : ℕ) → here k + k ≤ here 0

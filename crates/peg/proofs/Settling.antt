@@ -7,13 +7,13 @@ use Rattle.std.proofs.lemmas.Bool.{leb-true, le-leb, lt-leb}
 use Rattle.text.specs.Meaning.{accepted, replaced}
 use Rattle.peg.specs.Members.{In}
 use Rattle.peg.specs.Moves.{moved_rule_place, moved}
-use Rattle.peg.specs.Edits.{along}
+use Rattle.peg.specs.Edits.{along, Replaces}
 use Rattle.peg.specs.Completing.{PlaceGives}
 use Rattle.peg.specs.Known.{Known}
 use Rattle.peg.proofs.Rules.{one_rule}
 use Rattle.peg.proofs.Rows.{rule_placed}
 use Rattle.peg.proofs.Members.{in_append, in_left, in_right, in_map}
-use Rattle.peg.proofs.Edits.{Replaces, rule_kept, rule_moves, replaces}
+use Rattle.peg.proofs.Edits.{rule_kept, rule_moves, replaces}
 use Rattle.peg.specs.Settling.{Remains, kept, moves, Settles, Settling}
 use Rattle.peg.proofs.Completing.{rule_completed, rule_near}
 

@@ -16,6 +16,9 @@ added_some a b h = rw (some a.count h)
 pub moved_some : (f : ℕ → ℕ) (a : Recoveries) → 1 ≤ a.count → moved_recoveries f a ≡ record { count = a.count; label = a.label; place = f a.place }
 moved_some f a h = rw (some a.count h)
 
+stopped : (n c : ℕ) → min (n + c) most_recoveries ≡ min (min n most_recoveries + min c most_recoveries) most_recoveries
+stopped n c = omega arith
+
 length_map : {A B : Type 0} (f : A → B) (xs : List A) → length (map f xs) ≡ length xs
 length_map f [] = refl
 length_map f (x ∷ xs) = ap suc (length_map f xs)

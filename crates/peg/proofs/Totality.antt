@@ -23,8 +23,7 @@ use Rattle.peg.specs.Totality.{WellFormed, Ends, deepest, JustOne, ExactlyOne, T
 use Rattle.peg.proofs.Rules.{one, one_rule}
 use Rattle.peg.proofs.Halting.{apart, deeper}
 use Rattle.peg.proofs.Places.{end_from}
-use Rattle.grammar.proofs.Settling.{recovery_low}
-use Rattle.peg.proofs.Walks.{Short, short}
+use Rattle.peg.proofs.Walks.{Short, short, recovery_low}
 
 clash : (o : Outcome) (l p j : ℕ) → o ≡ Failure l p → o ≡ Match j → ⊥
 clash o l p j e f = let z : ◌≡◌ {A = ℕ} 0 1 = cc in omega arith

@@ -1,14 +1,31 @@
 -- No walk to leading parts goes on for ever: then each is at most 2 × N long.
-use Rattle.std.proofs.Common.{◌≡◌, ℕ, zero, suc, ◌+◌, ◌*◌, ◌<◌, ◌≤◌, ◌⊎◌, List, [], ◌∷◌, length, sym, refl, ap, subst, inl, inr, le_of_suc-le-suc, not-suc-le-zero, eq-or-lt_of_le, arith}
+use Rattle.std.proofs.Common.{◌≡◌, ℕ, zero, suc, ◌+◌, ◌*◌, ◌<◌, ◌≤◌, ◌⊎◌, List, [], ◌∷◌, length, Some, sym, refl, ap, subst, inl, inr, le_of_suc-le-suc, not-suc-le-zero, eq-or-lt_of_le, arith}
 use native.Mathlib.Decide.{ℕ_discrete}
 use Rattle.grammar.specs.declared.expr.Mode.{Mode}
 use Rattle.grammar.specs.declared.expr.Mode.TheVariants.{On, Off}
 use Rattle.grammar.specs.declared.expr.Expr.{Expr}
+use Rattle.grammar.specs.declared.expr.Expr.TheVariants.{Throw}
 use Rattle.grammar.specs.Words.{Peg}
-use Rattle.grammar.specs.Form.{Leads, Endless, Whole, Ending}
-use Rattle.grammar.proofs.Settling.{leads_low}
+use Rattle.grammar.specs.Form.{recovers_lem}
+use Rattle.grammar.specs.Form.{Leads, Endless, Refers, Whole, Ending}
+use Rattle.grammar.specs.Form.{to_body, to_first, past_first, to_one, to_other, to_part, to_inside, to_recovery}
 use Rattle.peg.specs.Members.{In}
 use Rattle.peg.proofs.Members.{without, length_without, in_without}
+
+-- what is led to exists
+pub recovery_low : (g : Peg) (l : ℕ) (m : Mode) (e : ℕ) → Refers g (Throw l) → recovers_lem g l m ≡ Some e → e < g.N
+recovery_low g l On e h p = h e p
+recovery_low g l Off e h p = let z : ◌≡◌ {A = ℕ} 0 1 = cc in let b : ⊥ = omega arith in absurd b
+
+pub leads_low : {g : Peg} {x : Expr} {m : Mode} {e : ℕ} {m' : Mode} → Leads g x m e m' → Whole g → Refers g x → e < g.N
+leads_low (to_body {r = r}) w h = w.0 r h
+leads_low to_first w h = h.0
+leads_low (past_first z) w h = h.1
+leads_low to_one w h = h.0
+leads_low to_other w h = h.1
+leads_low to_part w h = h
+leads_low to_inside w h = h
+leads_low {g} {m = m} {e = e} (to_recovery {l = l} p) w h = recovery_low g l m e h p
 
 -- every walk from here has k expressions at most
 abbrev pub Short : Peg → ℕ → Expr → Mode → Type 0
@@ -120,7 +137,7 @@ module _ (g : Peg) (whole : Whole g) (ending : Ending g) where
   short_from (suc k) u x h l f = λ e m s.
       let q = here u x h (f (code x) (omega (arith, half_low x.mode))) in
       let y : Node = record { number = e; mode = m } in
-      short_from k (without (code x) u q) y (leads_low g whole s (whole.1 x.number h)) (omega (arith, length_without (code x) u q)) (λ c z. extend u x y q s c (ℕ_discrete c (code x)) (f c z))
+      short_from k (without (code x) u q) y (leads_low s whole (whole.1 x.number h)) (omega (arith, length_without (code x) u q)) (λ c z. extend u x y q s c (ℕ_discrete c (code x)) (f c z))
 
   pub short : (e : ℕ) (m : Mode) → e < g.N → Short g (2 * g.N) (g.expr e) m
   short e m h = short_from (2 * g.N) (range (2 * g.N)) (record { number = e; mode = m }) h (omega (arith, length_range (2 * g.N))) (λ c z. inl (in_range (2 * g.N) c z))

@@ -1,5 +1,5 @@
 -- An edit of a text: what was given before it stands, and what was given behind it moves along.
-use Rattle.std.specs.Prelude.{◌≡◌, ℕ, ◌+◌, ◌≤◌, Bool, List, length}
+use Rattle.std.specs.Prelude.{◌≡◌, ℕ, ◌+◌, ◌<◌, ◌≤◌, Bool, List, length}
 use Rattle.grammar.specs.declared.expr.Mode.{Mode}
 use Rattle.grammar.specs.declared.expr.Expr.{Expr}
 use Rattle.grammar.specs.Words.{Peg}
@@ -13,6 +13,11 @@ use Rattle.peg.specs.Rows.{RowOf}
 -- where a place behind the edit goes, when k elements at p become m
 abbrev pub along : ℕ → ℕ → ℕ → ℕ → ℕ
 along p k m i = shift (p + k) (p + m) i
+
+-- k elements at p of the text t become m in the text u: all before and behind them is the same
+pub record Replaces (t u : Text) (p k m : ℕ) : Type 0 where
+  pub before : (a b i : ℕ) → i < p → t a b i ≡ u a b i
+  pub behind : (a b i : ℕ) → p + k ≤ i → t a b i ≡ u a b (along p k m i)
 
 -- what was given with a reach of at most p still stands; what was given at p + k or later stands m − k further on
 pub record Edited (t u : Text) (p k m : ℕ) : Type 0 where

@@ -3,6 +3,7 @@ use Rattle.std.proofs.Common.{◌≡◌, ℕ, ◌+◌, ◌-◌, ◌<◌, ◌≤�
 use Rattle.grammar.specs.declared.expr.Mode.{Mode}
 use Rattle.grammar.specs.declared.expr.Mode.TheVariants.{On}
 use Rattle.peg.specs.Results.{RulePlace}
+use Rattle.peg.specs.Counting.{fresh}
 use Rattle.peg.proofs.Counting.{fresh_exact}
 use Rattle.memo.specs.Tables.{Table}
 use Rattle.reading.specs.declared.reply.Reply.{Reply}

@@ -7,5 +7,4 @@ pub mod Truth
 pub mod Counts
 pub mod Shifting
 pub mod Steps
-pub mod Numbers
 pub mod Promises

@@ -1,5 +1,5 @@
 -- Every reading keeps its promises.
-use Rattle.std.proofs.Common.{◌≡◌, ℕ, ◌<◌, true, ◌↔◌, List, [], Ok, Err, refl, ap, subst}
+use Rattle.std.proofs.Common.{◌≡◌, ℕ, ◌<◌, true, ◌↔◌, Ok, Err, refl, ap, subst}
 use Rattle.grammar.specs.declared.expr.Mode.{Mode}
 use Rattle.grammar.specs.declared.expr.Mode.TheVariants.{On}
 use Rattle.peg.specs.declared.results.Reading.{Reading}
@@ -10,13 +10,10 @@ use Rattle.reading.specs.declared.reply.Reply.{Reply}
 use Rattle.reading.specs.Reads.{Setting, Store, store, Res, Asked, rule, Reads, each}
 use Rattle.reading.specs.Replies.{answer_of, Covers, Replies, uncovered, covered}
 use Rattle.reading.specs.Truth.{Proper}
-use Rattle.reading.specs.Putting.{Gone}
-use Rattle.reading.specs.Once.{ReplyDrops}
-use Rattle.reading.specs.Promises.{Refused, DroppedUndecided, Promised}
+use Rattle.reading.specs.Promises.{Refused, Promised}
 use Rattle.reading.proofs.Once.{none, at_most_one}
 use Rattle.reading.proofs.Truth.{reply_stands, none_false}
 use Rattle.reading.proofs.Counts.{reply_counted}
-use Rattle.reading.proofs.Numbers.{by_number}
 
 -- a result is handed on, and so is a refusal
 each_back : (f : Reading → Reading) (r : Res) (z : Refusal) → each f r ≡ Err z → r ≡ Err z
@@ -69,19 +66,11 @@ module _ (G : Setting) where
       (λ y. ap (λ p. p.result) (only k (covered c d) _ _ (covered c y.1.1)).0),
     )
 
-    drops : {U : Table} {q : Reply} → (d : Replies G capacity T q U) → (gs : List Gone) × ReplyDrops d gs
-    drops (uncovered u) = ([], tt)
-    drops (covered {r = r} {U = U} c d) = let s = at_most_one.some_drops G 0 0 (store T 0) U (rule 0) On r d in (s.0, ([], s.1))
-
-    given : {U : Table} {q : Reply} → Replies G capacity T q U → DroppedUndecided G capacity T q U
-    given {U} {q} d = ((drops d).0, (d, (drops d).1), λ p W e x. at_most_one.reply_given_drops G capacity T U W q p (drops d).0 d e (drops d).1 x)
-
   pub promised : Proper G → 0 < G.grammar.R → (capacity : ℕ) (T U : Table) (q : Reply) → Replies G capacity T q U → Promised G capacity T q U
   promised p l capacity T U q d = record {
-    eight = by_number q Uncovered (eight capacity d);
-    nine = λ k. by_number q Unfit (refused_exactly capacity Unfit (λ e. none (cc)) k d);
-    ten = λ k. by_number q TooDeep (refused_exactly capacity TooDeep (λ e. none (cc)) k d);
-    given = given capacity d;
+    eight = eight capacity d;
+    nine = λ k. refused_exactly capacity Unfit (λ e. none (cc)) k d;
+    ten = λ k. refused_exactly capacity TooDeep (λ e. none (cc)) k d;
     only = λ k. only capacity k d;
     over_true_rows = λ tr. reply_stands G capacity p l tr d;
     counted = λ tr c. reply_counted G p l tr c d;

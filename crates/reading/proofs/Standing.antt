@@ -14,7 +14,7 @@ use Rattle.peg.specs.Halting.{too_deep}
 use Rattle.peg.specs.Members.{In}
 use Rattle.peg.proofs.Halting.{some_depth, rule_deeper}
 use Rattle.peg.proofs.Totality.{within}
-use Rattle.grammar.proofs.Settling.{recovery_low}
+use Rattle.peg.proofs.Walks.{recovery_low}
 use Rattle.peg.proofs.Completing.{not_itself}
 use Rattle.peg.proofs.Counting.{learned_new}
 use Rattle.peg.proofs.Known.{nothing_fresh_halted}

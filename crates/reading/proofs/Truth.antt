@@ -17,7 +17,7 @@ use Rattle.memo.specs.Tables.{Table, Empty}
 use Rattle.reading.specs.declared.refusal.Refusal.TheVariants.{Uncovered, Unfit, TooDeep}
 use Rattle.reading.specs.declared.reply.Reply.{Reply}
 use Rattle.reading.specs.Reads.{Setting, Res, Asked, expression, rule, setting}
-use Rattle.reading.specs.Replies.{number, answer_of, Covers, Replies, uncovered, covered}
+use Rattle.reading.specs.Replies.{answer_of, Covers, Replies, uncovered, covered}
 use Rattle.reading.specs.Truth.{TrueRows, AllTrue, Proper, gives, halts, rule_gives, rule_halts, ComesTo, AskedGives, Stands, ReplyStands, TrueReading, MadeProper, Emptied}
 use Rattle.reading.proofs.Once.{none}
 use Rattle.reading.proofs.Coming.{comes_once, rule_once}
@@ -74,7 +74,7 @@ module _ (G : Setting) where
     uncovered_stands : (T : Table) → (Covers G capacity → ⊥) → AllTrue G T → ReplyStands G capacity (record { result = Err Uncovered; fresh = 0 }) T
     uncovered_stands T u tr = record {
       uncovered = (λ e. u, λ f. refl);
-      never_unfit = λ e. omega arith;
+      never_unfit = λ e. none (cc);
       answers = λ c. absurd (u c);
       too_deep = λ c. absurd (u c);
       comes = λ c. absurd (u c);
@@ -85,19 +85,19 @@ module _ (G : Setting) where
     covered_stands : Covers G capacity → (r : Res) (n : ℕ) (U : Table) → Stands G 0 (rule 0) 0 On r U → EndOf 0 (rule 0) 0 On r
         → ReplyStands G capacity (record { result = answer_of r; fresh = n }) U
     covered_stands c (Ok w) n U s (v, d, l, e) = record {
-      uncovered = (λ q. absurd (omega arith), λ f. absurd (f c));
-      never_unfit = λ q. omega arith;
+      uncovered = (λ q. none (cc), λ f. absurd (f c));
+      never_unfit = λ q. none (cc);
       answers = λ _ x y z. ap answer_of (s.answers x y (omega arith));
-      too_deep = λ _ x y. (λ q. absurd (omega arith), λ z. none (let q = s.too_deep x y (omega arith) in cc));
+      too_deep = λ _ x y. (λ q. none (cc), λ z. none (let q = s.too_deep x y (omega arith) in cc));
       comes = λ _. (Ok w, s.comes.0, s.comes.1, refl);
       answered = λ x q. (v, d, omega arith, sym q ∙ ap (λ o. answer_of (Ok o)) e);
       rows = s.rows;
     }
     covered_stands c (Err z) n U s e = record {
-      uncovered = (λ q. let p : number z ≡ 10 = ap number e in absurd (omega arith), λ f. absurd (f c));
-      never_unfit = λ q. let p : number z ≡ 10 = ap number e in omega arith;
+      uncovered = (λ q. none (cc), λ f. absurd (f c));
+      never_unfit = λ q. none (cc);
       answers = λ _ x y l. ap answer_of (s.answers x y (omega arith));
-      too_deep = λ _ x y. ((λ q. beyond x y (dec_le x.depth G.frames)), λ l. ap number e);
+      too_deep = λ _ x y. ((λ q. beyond x y (dec_le x.depth G.frames)), λ l. ap Err e);
       comes = λ _. (Err z, s.comes.0, s.comes.1, refl);
       answered = λ x q. none (cc);
       rows = s.rows;

@@ -1,6 +1,7 @@
 -- What a reading replies: the number of each refusal, question 8, and the answer with its count.
 use Rattle.std.specs.Prelude.{◌≡◌, ℕ, ◌<◌, ◌≤◌, Ok, Err, Result}
 use Rattle.grammar.specs.declared.expr.Mode.TheVariants.{On}
+use Rattle.peg.specs.declared.results.Reading.{Reading}
 use Rattle.memo.specs.Tables.{Table}
 use Rattle.reading.specs.declared.refusal.Refusal.{Refusal}
 use Rattle.reading.specs.declared.refusal.Refusal.TheVariants.{Uncovered, Unfit, TooDeep}
@@ -13,15 +14,6 @@ abbrev pub number : Refusal → ℕ
 number Uncovered = 8
 number Unfit = 9
 number TooDeep = 10
-
--- the number of a result; 0 is an answer
-abbrev pub result_number : Result Answer Refusal → ℕ
-result_number (Ok x) = 0
-result_number (Err z) = number z
-
--- the reply is a refusal with this number
-abbrev pub RefusedBy : ℕ → Reply → Type 0
-RefusedBy n q = result_number q.result ≡ n
 
 -- what is answered of what was read
 abbrev pub answer_of : Res → Result Answer Refusal

@@ -16,11 +16,11 @@ use Rattle.peg.specs.Fitting.{Labelled, Marked}
 use Rattle.memo.specs.declared.row.Row.{Row}
 use Rattle.memo.specs.Tables.{Table, Empty}
 use Rattle.memo.specs.Rows.{told_from}
-use Rattle.reading.specs.declared.refusal.Refusal.TheVariants.{Unfit, TooDeep}
+use Rattle.reading.specs.declared.refusal.Refusal.TheVariants.{Uncovered, Unfit, TooDeep}
 use Rattle.reading.specs.declared.reply.Answer.{Answer}
 use Rattle.reading.specs.declared.reply.Reply.{Reply}
 use Rattle.reading.specs.Reads.{Setting, Store, Res, Asked, expression, rule, Reads, setting}
-use Rattle.reading.specs.Replies.{answer_of, RefusedBy, Covers, Replies}
+use Rattle.reading.specs.Replies.{answer_of, Covers, Replies}
 
 -- the row x of rule k tells, from place i, what the rule gives there
 abbrev pub TrueRow : Peg → Text → ℕ → ℕ → Mode → Row → Type 0
@@ -82,12 +82,12 @@ pub record Stands (G : Setting) (h : ℕ) (a : Asked) (i : ℕ) (m : Mode) (r : 
 -- a whole reading over true rows replied q and left the rows U
 pub record ReplyStands (G : Setting) (capacity : ℕ) (q : Reply) (U : Table) : Type 0 where
   -- 8 exactly if the memory does not cover
-  pub uncovered : RefusedBy 8 q ↔ (Covers G capacity → ⊥)
+  pub uncovered : q.result ≡ Err Uncovered ↔ (Covers G capacity → ⊥)
   -- 9 never
-  pub never_unfit : RefusedBy 9 q → ⊥
+  pub never_unfit : q.result ≡ Err Unfit → ⊥
   -- else the derived answer, or 10 exactly if the derivation is deeper than the frames
   pub answers : Covers G capacity → (v : Given) → Parses G.grammar G.text v → v.depth ≤ G.frames → q.result ≡ answer_of (Ok (told v))
-  pub too_deep : Covers G capacity → (v : Given) → Parses G.grammar G.text v → RefusedBy 10 q ↔ (G.frames < v.depth)
+  pub too_deep : Covers G capacity → (v : Given) → Parses G.grammar G.text v → (q.result ≡ Err TooDeep) ↔ (G.frames < v.depth)
   -- in any case what the rules alone come to
   pub comes : Covers G capacity → (s : Res) × (zs : List RulePlace) × ComesTo G 0 (rule 0) 0 On s zs × (q.result ≡ answer_of s)
   pub answered : (x : Answer) → q.result ≡ Ok x → (v : Given) × Parses G.grammar G.text v × (v.depth ≤ G.frames) × (Ok x ≡ answer_of (Ok (told v)))

@@ -17,7 +17,7 @@ use Rattle.rowtext.specs.Accounts.{EachAnswered, none, more, answers_text, total
 use Rattle.rowtext.proofs.Reading.{writes_one}
 
 pub judged_refused : (ws : List ℕ) (f : FormFault) (v : Verdict) → Refuses f v → Reported ws lent (form_report f) → Judged ws v
-judged_refused ws f (Accepted c) h told = absurd h
+judged_refused ws f (Accepted n r l s) h told = absurd h
 judged_refused ws f (Refused p) h told = subst (Reported ws lent) (sym h) told
 
 same_place : (p q : Place) → place_report p ≡ place_report q → p ≡ q
@@ -31,9 +31,9 @@ not_both : (ws : List ℕ) (p : Place) → Reported ws lent right → Reported w
 not_both ws p h k = let e = (exactly ws lent right h (place_report p)).1 k in let z : ◌≡◌ {A = ℕ} 0 1 = cc in omega arith
 
 pub judged_one : (ws : List ℕ) (u v : Verdict) → Judged ws u → Judged ws v → u ≡ v
-judged_one ws (Accepted c) (Accepted d) h j = ap (λ x. Accepted x) (h.1 ∙ sym j.1)
-judged_one ws (Accepted c) (Refused p) h j = absurd (not_both ws p h.0 j)
-judged_one ws (Refused p) (Accepted c) h j = absurd (not_both ws p j.0 h)
+judged_one ws (Accepted n r l s) (Accepted m q k t) h j = h.1 ∙ sym j.1
+judged_one ws (Accepted n r l s) (Refused p) h j = absurd (not_both ws p h.0 j)
+judged_one ws (Refused p) (Accepted n r l s) h j = absurd (not_both ws p j.0 h)
 judged_one ws (Refused p) (Refused q) h j = ap (λ x. Refused x) (same_place p q ((exactly ws lent (place_report p) h (place_report q)).1 j))
 
 abbrev number_of : Report → ℕ
@@ -69,7 +69,7 @@ roomy ws t e h =
     ]
 
 pub never_short : (ws : List ℕ) (v : Verdict) → Judged ws v → RefusedBy 5 v → ⊥
-never_short ws (Accepted c) h = λ five. five
+never_short ws (Accepted n r l s) h = λ five. five
 never_short ws (Refused p) h = λ five. roomy ws (place_report p) five h
 
 pub answered_one : (line : List ℕ) (a b : Answer) → Answered line a → Answered line b → a ≡ b

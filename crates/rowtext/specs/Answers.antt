@@ -18,7 +18,7 @@ is_row NotRow = false
 
 -- whether it is an accepted row
 abbrev pub is_accepted_lem : Answer → Bool
-is_accepted_lem (Row (Accepted c)) = true
+is_accepted_lem (Row (Accepted n r l s)) = true
 is_accepted_lem (Row (Refused p)) = false
 is_accepted_lem NotRow = false
 

@@ -28,17 +28,17 @@ impl Answer {
     }
 
     /// Whether the line counts as a row.
-    pub(crate) fn is_row(self) -> bool
+    pub fn is_row(self) -> bool
         ensures { result ≡ is_row self }
     {
         matches!(self, Answer::Row(_))
     }
 
     /// Whether the line is an accepted row.
-    pub(crate) fn is_accepted(self) -> bool
+    pub fn is_accepted(self) -> bool
         ensures { result ≡ is_accepted_lem self }
     {
-        matches!(self, Answer::Row(Verdict::Accepted(_)))
+        matches!(self, Answer::Row(Verdict::Accepted { .. }))
     }
 
     /// The answer to the line of that number, as a line of text.

@@ -1,11 +1,10 @@
 //! What the check says of a row of words, and how that is written.
 ghost use Rattle.std.specs.Prelude.{◌≡◌, Some};
-ghost use Rattle.grammar.specs.Words.{meaning, counts_of};
-ghost use Rattle.rowtext.specs.declared.verdict.Verdict.TheVariants.{Accepted};
+ghost use Rattle.grammar.specs.Words.{meaning};
 ghost use Rattle.rowtext.specs.Exact.{Exactly};
-ghost use Rattle.rowtext.specs.Verdicts.{layer_name, verdict_text, Refuses, Judged, RefusedBy};
+ghost use Rattle.rowtext.specs.Verdicts.{layer_name, verdict_text, numbers, Refuses, Judged, RefusedBy};
 
-use grammar::accepted::{Counts, Grammar, check};
+use grammar::accepted::{Grammar, check};
 use grammar::fault::{FormFault, Layer, Place};
 use std::fmt;
 
@@ -16,7 +15,12 @@ const WORK: usize = 2000;
 #[derive(Clone, Copy, PartialEq, Eq, Debug)]
 pub enum Verdict {
     /// The row is a grammar, with so many of each.
-    Accepted(Counts),
+    Accepted {
+        expressions: usize,
+        rules: usize,
+        labels: usize,
+        sets: usize,
+    },
     /// The first question that was answered no, and where.
     Refused(Place),
 }
@@ -38,14 +42,12 @@ impl fmt::Display for Verdict {
 
     fn fmt<W: fmt::Write>(&self, f: &mut fmt::Formatter<W>) -> fmt::Result {
         match *self {
-            Verdict::Accepted(
-                Counts {
-                    expressions,
-                    rules,
-                    labels,
-                    sets,
-                },
-            ) => write!(f, "accepted N {expressions} R {rules} L {labels} S {sets}"),
+            Verdict::Accepted {
+                expressions,
+                rules,
+                labels,
+                sets,
+            } => write!(f, "accepted N {expressions} R {rules} L {labels} S {sets}"),
             Verdict::Refused(
                 Place {
                     number,
@@ -62,14 +64,19 @@ impl fmt::Display for Verdict {
 
 impl Verdict {
     /// The verdict on the row of a grammar that was accepted.
-    fn accepted(grammar: &Grammar) -> Verdict
-        ensures { result ≡ Accepted (counts_of (meaning grammar.now.words.now)) }
+    pub fn accepted(grammar: &Grammar) -> Verdict
+        ensures { result ≡ numbers (meaning grammar.now.words.now) }
     {
-        Verdict::Accepted(grammar.counts())
+        Verdict::Accepted {
+            expressions: grammar.expressions(),
+            rules: grammar.rules(),
+            labels: grammar.labels(),
+            sets: grammar.sets(),
+        }
     }
 
     /// The verdict on a row with a fault.
-    fn refused(fault: FormFault) -> Verdict
+    pub fn refused(fault: FormFault) -> Verdict
         ensures { Refuses fault result }
     {
         Verdict::Refused(fault.place())

@@ -3,8 +3,11 @@ use Rattle.std.proofs.Common.{◌≡◌, ℕ, zero, suc, ◌+◌, ◌-◌, ◌<�
 use Rattle.std.proofs.lemmas.List.{length-take-le}
 use Rattle.std.proofs.lemmas.Bool.{cases_lt, false≢true}
 use Rattle.text.specs.declared.EditRefusal.{EditRefusal}
+use Rattle.text.specs.declared.EditRefusal.TheVariants.{Range, Room}
+use Rattle.text.specs.declared.MakeRefusal.{MakeRefusal}
+use Rattle.text.specs.declared.MakeRefusal.TheVariants.{Buffer, Count}
 use Rattle.text.specs.Meaning.{accepted, replaced}
-use Rattle.text.specs.Refusals.{RangeExactly, RoomExactly}
+use Rattle.text.specs.Refusals.{RangeExactly, RoomExactly, BufferExactly, CountExactly}
 
 module _ {E : Type 0} (fits : ℕ → ℕ → E → Bool) where
   -- no at and beyond the end
@@ -45,6 +48,14 @@ module _ {E : Type 0} (fits : ℕ → ℕ → E → Bool) where
       let e : i < length (take p xs) = rw (length-take-le p xs h) l in
       accepted_left (take p xs) (ys ++ drop (p + k) xs) a b i e ∙ accepted_take p xs a b i l
 
+  -- the items stand where the change was made
+  pub accepted_inserted : (xs : List E) (p k : ℕ) (ys : List E) (a b j : ℕ) → p ≤ length xs → j < length ys → accepted fits (replaced xs p k ys) a b (p + j) ≡ accepted fits ys a b j
+  accepted_inserted xs p k ys a b j h l =
+      let e : length (take p xs) + j ≡ p + j = ap (λ n. n + j) (length-take-le p xs h) in
+      sym (ap (accepted fits (replaced xs p k ys) a b) e)
+      ∙ accepted_right (take p xs) (ys ++ drop (p + k) xs) a b j
+      ∙ accepted_left ys (drop (p + k) xs) a b j l
+
   -- what stood behind the k elements stands behind the items
   pub accepted_moved : (xs : List E) (p k : ℕ) (ys : List E) (a b j : ℕ) → p ≤ length xs → accepted fits (replaced xs p k ys) a b (p + length ys + j) ≡ accepted fits xs a b (p + k + j)
   accepted_moved xs p k ys a b j h =
@@ -55,9 +66,24 @@ module _ {E : Type 0} (fits : ℕ → ℕ → E → Bool) where
       ∙ accepted_right ys (drop (p + k) xs) a b j
       ∙ accepted_drop (p + k) xs a b j
 
+  -- the same by the new place
+  pub accepted_after : (xs : List E) (p k : ℕ) (ys : List E) (a b i : ℕ) → p ≤ length xs → p + length ys ≤ i → accepted fits (replaced xs p k ys) a b i ≡ accepted fits xs a b (i - length ys + k)
+  accepted_after xs p k ys a b i h l =
+      let e : p + length ys + (i - (p + length ys)) ≡ i = omega arith in
+      let f : p + k + (i - (p + length ys)) ≡ i - length ys + k = omega arith in
+      sym (ap (accepted fits (replaced xs p k ys) a b) e)
+      ∙ accepted_moved xs p k ys a b (i - (p + length ys)) h
+      ∙ ap (accepted fits xs a b) f
+
 -- a change takes k elements from the size, and adds the items
 pub length_replaced : {E : Type 0} (xs : List E) (p k : ℕ) (ys : List E) → p + k ≤ length xs → length (replaced xs p k ys) ≡ length xs - k + length ys
 length_replaced xs p k ys h = simp (length-append, length-take, length-drop) (omega arith)
+
+-- a change that stays within the text and its capacity is made
+pub edit_made : (r : Result (Unit {0}) EditRefusal) (n room p k m : ℕ) → RangeExactly r n p k → RoomExactly r n room p k m → p + k ≤ n → n - k + m ≤ room → is_ok r ≡ true
+edit_made (Ok x) n room p k m h l in' fits = refl
+edit_made (Err Range) n room p k m h l in' fits = absurd (omega (arith, h.0 refl))
+edit_made (Err Room) n room p k m h l in' fits = absurd (omega (arith, (l.0 refl).1))
 
 -- a change that is made stays within both
 pub edit_fits : (r : Result (Unit {0}) EditRefusal) (n room p k m : ℕ) → RangeExactly r n p k → RoomExactly r n room p k m → is_ok r ≡ true → (p + k ≤ n) × (n - k + m ≤ room)
@@ -65,3 +91,9 @@ edit_fits (Ok x) n room p k m h l e =
     let in' : p + k ≤ n = ⊎_elim (λ lt. let z : ◌≡◌ {A = ℕ} 0 11 = h.1 lt in omega arith) (λ le. le) (cases_lt n (p + k)) in
     (in', ⊎_elim (λ lt. let z : ◌≡◌ {A = ℕ} 0 12 = l.1 (in', lt) in omega arith) (λ le. le) (cases_lt room (n - k + m)))
 edit_fits (Err y) n room p k m h l e = absurd (false≢true e)
+
+-- a buffer and a count within the limits make a text
+pub make_made : (r : Result (Unit {0}) MakeRefusal) (n count : ℕ) → BufferExactly r n → CountExactly r n count → n ≤ 65535 → count ≤ n → is_ok r ≡ true
+make_made (Ok x) n count h l few fits = refl
+make_made (Err Buffer) n count h l few fits = absurd (omega (arith, h.0 refl))
+make_made (Err Count) n count h l few fits = absurd (omega (arith, (l.0 refl).1))

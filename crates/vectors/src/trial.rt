@@ -4,17 +4,13 @@ use crate::shown::Line;
 use anyhow::anyhow;
 use engine::frame::Frame;
 use engine::read::read;
-use grammar::accepted::{Counts, Grammar, check};
+use grammar::accepted::{Grammar, check};
+use memo::memory::Memory;
 use memo::ring::state::Ring;
 use memo::whole::WholeMemory;
 use reading::reply::Reply;
 use std::alloc::Global;
 use text::{EventLog, FixedBytes, Text};
-
-/// The words of a whole memory for so many places and rules.
-fn words_for(places: usize, rules: usize) -> usize {
-    places.saturating_mul(rules).saturating_mul(16)
-}
 
 /// A reading over a whole memory that covers the text's capacity and the grammar's rules, and holds no row.
 fn over_whole<T: Text>(
@@ -24,9 +20,11 @@ fn over_whole<T: Text>(
     frames: &mut [Frame],
 ) -> anyhow::Result<Reply> {
     let places = text.capacity() + 1;
-    let Counts { rules, .. } = grammar.counts();
-    let mut words = vec![in heap; 0u32; words_for(places, rules)]?;
-    let (mut memory, made) = WholeMemory::new(&mut words, places, rules);
+    let Some(count) = grammar.rules().checked_mul(16 * places) else {
+        return Err(anyhow!("too many words"));
+    };
+    let mut words = vec![in heap; 0u32; count]?;
+    let (mut memory, made) = WholeMemory::new(&mut words, places, grammar.rules());
     if made.is_err() {
         return Err(anyhow!("no memory of this size"));
     }

@@ -9,10 +9,10 @@ use Rattle.sitefile.proofs.site_line.Goals as goal
 pub returns-in-Ok : goal.returns-in-Ok
 returns-in-Ok c =
     let input = c.args.input.now in
-    let q = c.reply-to.result in
+    let q = c.reply_to.result in
     let new = c.new_text in
     let made = text_made input _ new.result.0 new.result.1 _ c.in-Ok.is new.ensures.count new.ensures.made c.fill.ensures.length c.fill.ensures.filled in
-    let told = subst (λ xs. SoleReply xs q) made.1 (c.reply-to.ensures made.2) in
+    let told = subst (λ xs. SoleReply xs q) made.1 (c.reply_to.ensures made.2) in
     IfOk-weaker c.format.result (λ line. string_bytes line ≡ reply_text q ++ (newline ∷ [])) (λ line. Shows input (string_bytes line)) (λ line e. shows_reply input (string_bytes line) q made.0 told e)
     c.format.ensures.ok
 

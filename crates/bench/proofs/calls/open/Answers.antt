@@ -1,3 +1,4 @@
+use Rattle.std.proofs.Common.{refl}
 use Rattle.bench.specs.Runs.{opened}
 use Rattle.bench.proofs.calls.open.Goals as goal
 

@@ -7,10 +7,6 @@ returns g c =
     record {
       law = e.law;
       counts = λ first cs ks r v. (e.law first cs ks r).exactly v refl;
-      replies = e.replies;
-      promised = e.promised;
-      run = e.run;
-      unchanged = e.unchanged;
       blank = e.blank;
       places = e.places;
       rules = e.rules;

@@ -1,11 +1,12 @@
+use Rattle.std.proofs.Common.{sym, refl}
 use Rattle.engine.proofs.Finding.{found_unfit, found_deep, found_stands}
 use Rattle.engine.proofs.find.found.Goals as goal
 
-pub returns-then-not-may-stand : goal.returns-then-not-may-stand
-returns-then-not-may-stand c = λ G h p q room. found_unfit G h c.args.left c.args.rule c.args.place c.args.mode c.args.row c.told-reading.result c.may-stand.result room c.told-reading.ensures (c.may-stand.ensures G p q) c.if-not-may-stand.true
+pub returns-then-not-may_stand : goal.returns-then-not-may_stand
+returns-then-not-may_stand c = λ G h p q room. found_unfit G h c.args.left c.args.rule c.args.place c.args.mode c.args.row c.told-reading.result c.may_stand.result room c.told-reading.ensures (c.may_stand.ensures G p q) c.if-not-may_stand.true
 
 pub returns-then-reading-left : goal.returns-then-reading-left
-returns-then-reading-left c = λ G h p q room. found_deep G h c.args.left c.args.rule c.args.place c.args.mode c.args.row c.told-reading.result c.may-stand.result room c.told-reading.ensures (c.may-stand.ensures G p q) c.if-not-may-stand.false c.if-reading-left.true
+returns-then-reading-left c = λ G h p q room. found_deep G h c.args.left c.args.rule c.args.place c.args.mode c.args.row c.told-reading.result c.may_stand.result room c.told-reading.ensures (c.may_stand.ensures G p q) c.if-not-may_stand.false c.if-reading-left.true
 
 pub returns : goal.returns
-returns c = λ G h p q room. found_stands G h c.args.left c.args.rule c.args.place c.args.mode c.args.row c.told-reading.result c.may-stand.result room c.told-reading.ensures (c.may-stand.ensures G p q) c.if-not-may-stand.false c.if-reading-left.false
+returns c = λ G h p q room. found_stands G h c.args.left c.args.rule c.args.place c.args.mode c.args.row c.told-reading.result c.may_stand.result room c.told-reading.ensures (c.may_stand.ensures G p q) c.if-not-may_stand.false c.if-reading-left.false

@@ -1,12 +1,11 @@
-use Rattle.std.proofs.Common.{◌≡◌, ℕ, length, replicate, Err, refl, ap, ◌∙◌, arith}
+use Rattle.std.proofs.Common.{◌≡◌, ℕ, ◌<◌, ◌≤◌, length, replicate, Err, sym, refl, ap, ◌∙◌, subst, arith}
 use Rattle.grammar.specs.Words.{meaning}
-use Rattle.grammar.proofs.Referring.{accepted_of}
 use Rattle.memo.specs.Tables.{Table}
 use Rattle.reading.specs.Reads.{Setting, setting}
 use Rattle.reading.specs.declared.refusal.Refusal.TheVariants.{Uncovered}
 use Rattle.reading.specs.Replies.{Replies}
 use Rattle.engine.specs.Frames.{blank}
-use Rattle.engine.proofs.Settings.{sane, covers_as, uncovered_as, covered_as, promised_of}
+use Rattle.engine.proofs.Settings.{sane, uncovered_as, covered_as, promised_of}
 use Rattle.engine.proofs.read.read.Goals as goal
 
 pub returns-then-not-covers : goal.returns-then-not-covers
@@ -16,11 +15,10 @@ returns-then-not-covers g c =
     let room : ℕ = g.T.Text.room c.args.text.now in
     let T : Table = g.M.Memory.table c.args.memory.now in
     let told : Replies G room T (record { result = Err Uncovered; fresh = 0 }) T =
-    uncovered_as G room T _ _ _ _ c.places.ensures c.capacity.ensures.is c.rules.ensures (ap (λ x. x.rules) c.counts.ensures) (c.covers.ensures.1 c.if-not-covers.true) in
+    uncovered_as G room T _ _ _ _ c.places.ensures c.capacity.ensures.is c.rules.ensures c.rules-2.ensures (c.covers.ensures.1 c.if-not-covers.true) in
     record {
       replies = told;
-      promised = promised_of row.words.now (accepted_of row) g.T.Text.fits (g.T.Text.elements c.args.text.now) (length c.args.frames.now) g.M.Memory.keeps _ _ room T _ _ told;
-      unchanged = λ _. refl;
+      promised = promised_of row.words.now (row.counted, row.headed, row.formed, row.named, row.solid, row.ending) g.T.Text.fits (g.T.Text.elements c.args.text.now) (length c.args.frames.now) g.M.Memory.keeps _ _ room T _ _ told;
       blank = c.drop-guard.ensures;
       places = refl;
       rules = refl;
@@ -30,7 +28,7 @@ pub root-result-requires : goal.root-result-requires
 root-result-requires g c =
     let row = c.args.grammar.now in
     record {
-      sane = sane c.args.grammar.now.words.now (accepted_of row) g.T.Text.fits (g.T.Text.elements c.args.text.now) (length c.args.frames.now) g.M.Memory.keeps _ _
+      sane = sane c.args.grammar.now.words.now (row.counted, row.headed, row.formed, row.named, row.solid, row.ending) g.T.Text.fits (g.T.Text.elements c.args.text.now) (length c.args.frames.now) g.M.Memory.keeps _ _
           (omega (arith, c.capacity.ensures.within, c.capacity.ensures.few));
       some = let h = row.headed.2.0.0 in omega arith;
     }
@@ -43,13 +41,11 @@ returns g c =
     let T : Table = g.M.Memory.table c.args.memory.now in
     let same : length c.root-result.new.frames ≡ length c.args.frames.now = omega arith in
     let told : Replies G room T (record { result = c.answered.result; fresh = c.root-result.new.fresh }) (g.M.Memory.table c.root-result.new.memory) =
-    covered_as G room T _ _ _ _ c.places.ensures c.capacity.ensures.is c.rules.ensures (ap (λ x. x.rules) c.counts.ensures) (c.covers.ensures.0 c.if-not-covers.false)
+    covered_as G room T _ _ _ _ c.places.ensures c.capacity.ensures.is c.rules.ensures c.rules-2.ensures (c.covers.ensures.0 c.if-not-covers.false)
     c.root-result.result _ c.answered.result c.answered.ensures c.root-result.ensures.reads in
-    let kept = promised_of row.words.now (accepted_of row) g.T.Text.fits (g.T.Text.elements c.args.text.now) (length c.args.frames.now) g.M.Memory.keeps _ _ room T _ _ told in
     record {
       replies = told;
-      promised = kept;
-      unchanged = λ e. absurd (kept.eight.0 e (covers_as G room _ _ _ _ c.places.ensures c.capacity.ensures.is c.rules.ensures (ap (λ x. x.rules) c.counts.ensures) (c.covers.ensures.0 c.if-not-covers.false)));
+      promised = promised_of row.words.now (row.counted, row.headed, row.formed, row.named, row.solid, row.ending) g.T.Text.fits (g.T.Text.elements c.args.text.now) (length c.args.frames.now) g.M.Memory.keeps _ _ room T _ _ told;
       blank = c.drop-guard-2.ensures ∙ ap (λ (n : ℕ). replicate n blank) same;
       places = c.root-result.ensures.places;
       rules = c.root-result.ensures.rules;

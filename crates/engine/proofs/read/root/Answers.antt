@@ -40,5 +40,5 @@ returns-in-Ok g c =
       rules = c.put.ensures.rules ∙ c.in-Ok.ensures.rules;
       reads = Reads.body_gives (sym c.in-None.ensures.row)
           (subst (λ (e : ℕ). Reads G 0 T (expression e) 0 On (Ok c.in-Ok.reading) U) c.body.ensures c.in-Ok.ensures.reads)
-          (stores_as G U W 0 0 On _ On _ refl (sym c.in-Ok.ensures.places) (sym c.in-Ok.ensures.rules) refl c.row-at.ensures c.put.ensures.puts c.counted.ensures);
+          (stores_as G U W 0 0 On _ On _ refl (sym c.in-Ok.ensures.places) (sym c.in-Ok.ensures.rules) refl c.row_at.ensures c.put.ensures.puts c.counted.ensures);
     }

@@ -1,3 +1,10 @@
+use Rattle.std.proofs.Common.{◌≡◌, ℕ, sym, refl, ap, ◌∙◌}
+use Rattle.engine.specs.Frames.{going_on, so_far}
+use Rattle.engine.specs.Machine.{finish, rounds}
+use Rattle.peg.specs.declared.results.Reading.{Reading}
+use Rattle.peg.specs.Readings.{read_sequence, read_other}
+use Rattle.peg.specs.Rules.{caught}
+use Rattle.grammar.specs.Words.{Peg}
 use Rattle.reading.specs.Reads.{store}
 use Rattle.engine.proofs.Resuming.{call_gives, gives_as, stores_as}
 use Rattle.engine.proofs.resume.after_call.Goals as goal
@@ -9,7 +16,7 @@ returns g c = record {
       let U = store (g.M.Memory.table c.put.new.self) c.counted.result in
       gives_as G T h c.args.frame c.args.v U c.deeper.result _ c.deeper.ensures
       (call_gives G sane T h c.args.frame c.args.v w c.args.rule U e
-      (stores_as G T U c.args.rule c.args.frame.place _ _ _ _ k p q c.mode-of.ensures c.row-at.ensures c.put.ensures.puts c.counted.ensures));
+      (stores_as G T U c.args.rule c.args.frame.place _ _ _ _ k p q c.mode_of.ensures c.row_at.ensures c.put.ensures.puts c.counted.ensures));
   places = c.put.ensures.places;
   rules = c.put.ensures.rules;
 }

@@ -1,7 +1,10 @@
 use Rattle.std.proofs.Common.{◌≡◌, ◌≤◌, length}
+use Rattle.grammar.specs.declared.expr.Mode.TheVariants.{On}
 use Rattle.grammar.specs.Words.{meaning}
-use Rattle.reading.specs.Reads.{setting, store}
-use Rattle.engine.proofs.Kept.{stack, Goal, Going, left}
+use Rattle.engine.specs.Frames.{stack}
+use Rattle.reading.specs.Reads.{Setting, setting, store, expression, Reads}
+use Rattle.engine.specs.Machine.{Going, left}
+use Rattle.engine.proofs.Turns.{Goal}
 use Rattle.engine.proofs.run.evaluate.Given as goal
 
 abbrev pub invariant-turns : goal.invariant-turns

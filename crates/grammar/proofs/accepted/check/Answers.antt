@@ -3,11 +3,20 @@ use Rattle.grammar.specs.Faults.{right, form_report}
 use Rattle.grammar.proofs.Reporting.{exactly, refused}
 use Rattle.grammar.proofs.accepted.check.Goals as goal
 
-pub invariant-of-grammar : goal.invariant-of-grammar
-invariant-of-grammar c =
+pub invariant_of-grammar : goal.invariant_of-grammar
+invariant_of-grammar c =
     let found = c.in-Ok.ensures in
     let row = found.accepted in
-    (row.0, (row.1, (row.2, (row.3, (row.4, (row.5, (∣ found.mask_on ∣₁, (∣ found.mask_off ∣₁, tt))))))))
+    record {
+      counted = row.0;
+      headed = row.1;
+      formed = row.2;
+      named = row.3;
+      solid = row.4;
+      ending = row.5;
+      mask_on = ∣ found.mask_on ∣₁;
+      mask_off = ∣ found.mask_off ∣₁;
+    }
 
 pub returns-in-Ok : goal.returns-in-Ok
 returns-in-Ok c =

@@ -6,7 +6,7 @@ use Rattle.grammar.proofs.form.grow.Goals as goal
 
 pub returns : goal.returns
 returns c = record {
-  grew = grew_one (meaning c.args.words.now) c.args.work.now c.set-mark.new.work c.args.fact c.args.number c.args.mode
-      c.requires.whole c.requires.known c.requires.ready c.requires.backed (sym c.if-marked.ensures) (sym c.if-not-is-due.ensures) c.set-mark.ensures;
+  grew = grew_one (meaning c.args.words.now) c.args.work.now c.set_mark.new.work c.args.fact c.args.number c.args.mode
+      c.requires.whole c.requires.known c.requires.ready c.requires.backed (sym c.if-marked.ensures) (sym c.if-not-is_due.ensures) c.set_mark.ensures;
   tried = λ p. absurd (both_ways _ p refl);
 }

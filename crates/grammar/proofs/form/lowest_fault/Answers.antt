@@ -1,4 +1,4 @@
-use Rattle.std.proofs.Common.{◌≡◌, ◌+◌, ◌-◌, ◌<◌, length, sym, subst, arith, below_more}
+use Rattle.std.proofs.Common.{◌≡◌, ℕ, ◌+◌, ◌-◌, ◌<◌, length, sym, ◌∙◌, subst, arith, below_more}
 use Rattle.grammar.specs.Words.{meaning}
 use Rattle.grammar.specs.Questions.{Lowest, WordAtFault, word_of}
 use Rattle.grammar.specs.Marks.{mark, FaultAt}
@@ -7,20 +7,20 @@ use Rattle.grammar.proofs.form.lowest_fault.Goals as goal
 
 pub loop-number-preserved : goal.loop-number-preserved
 loop-number-preserved c =
-    let low : c.loop-number.number < (meaning c.args.words.now).N = omega (arith, c.expressions-of-count.ensures.value) in
+    let low : c.loop-number.number < (meaning c.args.words.now).N = omega (arith, c.expressions_of-count.ensures.value) in
     below_more _ _ c.loop-number.invariant
-    ((faulty_tells (meaning c.args.words.now) (mark c.args.work.now) c.requires.whole c.args.fact c.requires.decided c.loop-number.number low).1 (sym c.if-at-fault.ensures))
+    ((faulty_tells (meaning c.args.words.now) (mark c.args.work.now) c.requires.whole c.args.fact c.requires.decided c.loop-number.number low).1 (sym c.if-at_fault.ensures))
 
-pub returns-then-at-fault : goal.returns-then-at-fault
-returns-then-at-fault c =
+pub returns-then-at_fault : goal.returns-then-at_fault
+returns-then-at_fault c =
     let g = meaning c.args.words.now in
-    let count = c.expressions-of-count.ensures.value in
-    let low : c.loop-number.number < g.row.N = omega (arith, count) in
-    let at : word_of c.args.words.now c.loop-number.number ≡ length c.args.words.now - c.expressions-of-count.result + c.loop-number.number = omega (arith, count) in
+    let count = c.expressions_of-count.ensures.value in
+    let low : c.loop-number.number < g.N = omega (arith, count) in
+    let at : word_of c.args.words.now c.loop-number.number ≡ length c.args.words.now - c.expressions_of-count.result + c.loop-number.number = omega (arith, count) in
     subst (Lowest (WordAtFault c.args.words.now (FaultAt g c.args.fact))) at
     (lowest_word c.args.words.now (FaultAt g c.args.fact) c.loop-number.number low
-    ((faulty_tells g (mark c.args.work.now) c.requires.whole c.args.fact c.requires.decided c.loop-number.number low).0 (sym c.if-at-fault.ensures))
+    ((faulty_tells g (mark c.args.work.now) c.requires.whole c.args.fact c.requires.decided c.loop-number.number low).0 (sym c.if-at_fault.ensures))
     c.loop-number.invariant)
 
 pub returns : goal.returns
-returns c = no_word c.args.words.now (FaultAt (meaning c.args.words.now) c.args.fact) (λ k l. c.loop-number.invariant k (omega (arith, c.expressions-of-count.ensures.value)))
+returns c = no_word c.args.words.now (FaultAt (meaning c.args.words.now) c.args.fact) (λ k l. c.loop-number.invariant k (omega (arith, c.expressions_of-count.ensures.value)))

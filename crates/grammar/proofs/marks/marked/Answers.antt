@@ -1,4 +1,4 @@
-use Rattle.std.proofs.Common.{◌≡◌, ℕ, ◌+◌, ◌-◌, ◌^◌, ◌<◌, min, length, ap, ◌∙◌, ap₂, arith}
+use Rattle.std.proofs.Common.{◌≡◌, ℕ, ◌+◌, ◌-◌, ◌^◌, ◌<◌, min, length, sym, ap, ◌∙◌, ap₂, arith}
 use Rattle.grammar.specs.Words.{bit}
 use Rattle.grammar.specs.Marks.{mark, mode_bit}
 use Rattle.grammar.proofs.Marking.{word_there}
@@ -8,7 +8,7 @@ pub returns : goal.returns
 unfolding mark
 returns c =
     let short : length c.args.work.now < 2 ^ 64 = omega arith in
-    let second : c.saturating-add-second.result ≡ min (c.args.number + mode_bit c.args.mode) (2 ^ 64 - 1) =
-    c.saturating-add-second.ensures ∙ ap (λ (b : ℕ). min (c.args.number + b) (2 ^ 64 - 1)) c.half-of.ensures in
+    let second : c.saturating_add-second.result ≡ min (c.args.number + mode_bit c.args.mode) (2 ^ 64 - 1) =
+    c.saturating_add-second.ensures ∙ ap (λ (b : ℕ). min (c.args.number + b) (2 ^ 64 - 1)) c.half_of.ensures in
     c.holds.ensures
-    ∙ ap₂ bit (c.word-at.ensures ∙ word_there c.args.work.now c.args.number (mode_bit c.args.mode) _ short second) c.bit-of.ensures
+    ∙ ap₂ bit (c.word_at.ensures ∙ word_there c.args.work.now c.args.number (mode_bit c.args.mode) _ short second) c.bit_of.ensures

@@ -1,6 +1,6 @@
-use Rattle.std.proofs.Common.{◌<◌, arith}
+use Rattle.std.proofs.Common.{◌≡◌, ℕ, ◌<◌, sym, ap, ◌∙◌, subst, arith}
 use Rattle.std.proofs.lemmas.Nat.{one_shl}
-use Rattle.grammar.specs.Marks.{fact_bit}
+use Rattle.grammar.specs.Marks.{fact_bit, mode_bit}
 use Rattle.grammar.proofs.Marking.{set_marked, fact_low}
 use Rattle.grammar.proofs.marks.set_mark.Goals as goal
 
@@ -8,5 +8,5 @@ pub returns : goal.returns
 returns c =
     let low = fact_low c.args.fact in
     let lt : fact_bit c.args.fact < 32 = omega arith in
-    rw (c.half-of.ensures, c.bit-of.ensures, one_shl (fact_bit c.args.fact) 32 lt)
+    rw (c.half_of.ensures, c.bit_of.ensures, one_shl (fact_bit c.args.fact) 32 lt)
     (set_marked c.args.work.now c.args.fact c.args.number c.args.mode c.requires)

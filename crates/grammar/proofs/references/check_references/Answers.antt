@@ -3,5 +3,5 @@ use Rattle.grammar.proofs.references.check_references.Goals as goal
 
 pub loop-place-preserved : goal.loop-place-preserved
 loop-place-preserved c =
-    let here = c.if-not-word-named.ensures in
+    let here = c.if-not-word_named.ensures in
     below_more _ _ c.loop-place.invariant (cc)

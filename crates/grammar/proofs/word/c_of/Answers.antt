@@ -1,3 +1,4 @@
+use Rattle.std.proofs.Common.{◌/◌}
 use Rattle.std.proofs.lemmas.Nat.{and_mask}
 use Rattle.grammar.proofs.word.c_of.Goals as goal
 

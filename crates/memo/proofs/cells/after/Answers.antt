@@ -7,11 +7,11 @@ use Rattle.memo.proofs.cells.after.Goals as goal
 there : (j w P s : ℕ) → 0 < w → j < P → j * w + s % w < w * P
 there j w P s some h = mul-add-lt j w (s % w) P h (mod_below s w some)
 
-pub overflow-mul-from : goal.overflow-mul-from
-overflow-mul-from c = omega (arith, there c.in-Some.from c.args.width c.args.places c.args.s c.requires.some c.in-Some.ensures.2)
+pub overflow_mul-from : goal.overflow_mul-from
+overflow_mul-from c = omega (arith, there c.in-Some.from c.args.width c.args.places c.args.s c.requires.some c.in-Some.ensures.2)
 
-pub overflow-add-from : goal.overflow-add-from
-overflow-add-from c = omega (arith, there c.in-Some.from c.args.width c.args.places c.args.s c.requires.some c.in-Some.ensures.2)
+pub overflow_add-from : goal.overflow_add-from
+overflow_add-from c = omega (arith, there c.in-Some.from c.args.width c.args.places c.args.s c.requires.some c.in-Some.ensures.2)
 
 pub read-requires-in-Some : goal.read-requires-in-Some
 read-requires-in-Some c =

@@ -10,6 +10,6 @@ returns-then-place-places c =
     record {
       puts = puts_at ws vs c.args.places c.args.rules c.args.rule c.args.place c.args.mode c.args.row
           c.if-rule-rules.true c.if-place-places.true
-          (subst (λ (s : ℕ). Written ws s (Some c.args.row) vs) c.slot-of-s.ensures.is c.write.ensures);
-      beyond = record { long = c.write.auto.words; same = λ u h. c.write.ensures.rest u (inr (omega (arith, c.slot-of-s.ensures.within))) };
+          (subst (λ (s : ℕ). Written ws s (Some c.args.row) vs) c.slot_of-s.ensures.is c.write.ensures);
+      beyond = record { long = c.write.auto.words; same = λ u h. c.write.ensures.rest u (inr (omega (arith, c.slot_of-s.ensures.within))) };
     }

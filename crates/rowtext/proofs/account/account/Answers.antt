@@ -9,33 +9,33 @@ use Rattle.rowtext.proofs.account.account.Goals as goal
 pub loop-line-init : goal.loop-line-init
 loop-line-init c = nothing c.args.input.now (string_bytes c.new_text.result) c.new_text.ensures.bytes
 
-pub overflow-add-lines : goal.overflow-add-lines
-overflow-add-lines c = omega (arith, bounds c.loop-line.invariant, c.in-Some.ensures.falls, c.well-formed)
+pub overflow_add-lines : goal.overflow_add-lines
+overflow_add-lines c = omega (arith, bounds c.loop-line.invariant, c.in-Some.ensures.falls, c.well-formed)
 
-pub overflow-add-rows : goal.overflow-add-rows
-overflow-add-rows c = omega (arith, bounds c.loop-line.invariant, c.from.ensures, byte_low c.is-row.result, c.in-Some.ensures.falls, c.well-formed)
+pub overflow_add-rows : goal.overflow_add-rows
+overflow_add-rows c = omega (arith, bounds c.loop-line.invariant, c.from.ensures, byte_low c.is_row.result, c.in-Some.ensures.falls, c.well-formed)
 
-pub overflow-add-accepted : goal.overflow-add-accepted
-overflow-add-accepted c = omega (arith, bounds c.loop-line.invariant, c.from-in-Some.ensures, byte_low c.is_accepted.result, c.in-Some.ensures.falls, c.well-formed)
+pub overflow_add-accepted : goal.overflow_add-accepted
+overflow_add-accepted c = omega (arith, bounds c.loop-line.invariant, c.from-in-Some.ensures, byte_low c.is_accepted.result, c.in-Some.ensures.falls, c.well-formed)
 
 pub loop-line-smaller : goal.loop-line-smaller
 loop-line-smaller c = c.in-Some.ensures.falls
 
 pub loop-line-preserved : goal.loop-line-preserved
 loop-line-preserved c =
-    let wrote = c.in-ok-push-str.ensures.bytes ∙ ap (λ bs. string_bytes c.loop-line.text ++ bs) (c.as-str.ensures.value ∙ c.in-ok-to-text.ensures) in
-    one_more c.loop-line.invariant c.in-Some.line.now c.in-Some.after.now (string_bytes c.push-str.new.self) c.in-ok-answer.answer c.is-row.result
+    let wrote = c.in_ok-push_str.ensures.bytes ∙ ap (λ bs. string_bytes c.loop-line.text ++ bs) (c.as_str.ensures.value ∙ c.in_ok-to_text.ensures) in
+    one_more c.loop-line.invariant c.in-Some.line.now c.in-Some.after.now (string_bytes c.push_str.new.self) c.in_ok-answer.answer c.is_row.result
     c.is_accepted.result c.from.result c.from-in-Some.result c.in-Some.ensures.cuts c.in-Some.ensures.falls
-    ((c.in-ok-answer.ensures c.in-ok-answer.answer).0 refl) wrote c.is-row.ensures c.from.ensures c.is_accepted.ensures c.from-in-Some.ensures
+    ((c.in_ok-answer.ensures c.in_ok-answer.answer).0 refl) wrote c.is_row.ensures c.from.ensures c.is_accepted.ensures c.from-in-Some.ensures
 
 pub returns : goal.returns
 returns c =
     let old = c.loop-line.invariant in
     let text = string_bytes c.loop-line.text in
-    let new = string_bytes c.push-str-2.new.self in
-    let said : string_bytes c.in-ok-format.field-0 ≡ codes "rows " ++ (decimal c.loop-line.rows ++ (codes " accepted " ++ (decimal c.loop-line.accepted ++ (newline ∷ [])))) =
-    c.in-ok-format.ensures.ok in
+    let new = string_bytes c.push_str-2.new.self in
+    let said : string_bytes c.in_ok-format.field-0 ≡ codes "rows " ++ (decimal c.loop-line.rows ++ (codes " accepted " ++ (decimal c.loop-line.accepted ++ (newline ∷ [])))) =
+    c.in_ok-format.ensures.ok in
     let total = said ∙ total_line old.answers c.loop-line.rows c.loop-line.accepted old.rowed old.passed in
-    let wrote = c.in-ok-push-str-2.ensures.bytes ∙ ap (λ bs. text ++ bs) (c.as-str-2.ensures.value ∙ total) in
-    let h = closed old new c.in-default.ensures.cuts wrote in
+    let wrote = c.in_ok-push_str-2.ensures.bytes ∙ ap (λ bs. text ++ bs) (c.as_str-2.ensures.value ∙ total) in
+    let h = closed old new c.in_default.ensures.cuts wrote in
     exact (Accounted c.args.input.now) new h (λ output. accounted_one new output h)

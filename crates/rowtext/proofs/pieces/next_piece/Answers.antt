@@ -6,9 +6,9 @@ use Rattle.rowtext.specs.Pieces.{cut}
 use Rattle.rowtext.proofs.Cutting.{cut_at, cut_all, cut_none, cut_goes_on}
 use Rattle.rowtext.proofs.pieces.next_piece.Goals as goal
 
-pub returns-then-is-empty : goal.returns-then-is-empty
-returns-then-is-empty c =
-    let none = eqb-true (length c.args.text.now) 0 (sym c.if-is-empty.ensures) in
+pub returns-then-is_empty : goal.returns-then-is_empty
+returns-then-is_empty c =
+    let none = eqb-true (length c.args.text.now) 0 (sym c.if-is_empty.ensures) in
     let h = cut_none c.args.separator c.args.text.now none in
     record { parts = h.0; cuts = h.1; falls = none }
 
@@ -17,7 +17,7 @@ returns-then-end-text c =
     let s = c.args.separator in
     let bs = c.args.text.now in
     let n = c.before-end.result in
-    let some : 0 < length bs = omega (arith, eqb-false (length bs) 0 (sym c.if-is-empty.ensures)) in
+    let some : 0 < length bs = omega (arith, eqb-false (length bs) 0 (sym c.if-is_empty.ensures)) in
     let rest : take (length bs - n) (drop n bs) ≡ [] = take_rest bs n ∙ drop_all n bs (omega arith) in
     let parts : Some (bs, take (length bs - n) (drop n bs)) ≡ cut s bs =
     ap (λ q. Some (bs, q)) rest ∙ cut_all s bs some (λ k low. c.before-end.ensures.apart k (omega arith)) in

@@ -1,8 +1,7 @@
 use Rattle.std.proofs.Common.{◌≡◌, sym, refl, ap, ◌∙◌, subst}
-use Rattle.grammar.specs.Words.{meaning, counts_of}
+use Rattle.grammar.specs.Words.{meaning}
 use Rattle.grammar.specs.Faults.{right, form_report}
-use Rattle.rowtext.specs.declared.verdict.Verdict.TheVariants.{Accepted}
-use Rattle.rowtext.specs.Verdicts.{Judged}
+use Rattle.rowtext.specs.Verdicts.{Judged, numbers}
 use Rattle.rowtext.proofs.Sole.{exact}
 use Rattle.rowtext.proofs.Judging.{judged_refused, judged_one, never_short}
 use Rattle.rowtext.proofs.verdict.judge.Goals as goal
@@ -12,7 +11,7 @@ returns-in-Ok c =
     let ws = c.args.words.now in
     let v = c.accepted.result in
     let told = (c.in-Ok.ensures.answers right).0 refl in
-    let e : v ≡ Accepted (counts_of (meaning ws)) = c.accepted.ensures ∙ ap (λ us. Accepted (counts_of (meaning us))) c.in-Ok.ensures.grammar in
+    let e : v ≡ numbers (meaning ws) = c.accepted.ensures ∙ ap (λ us. numbers (meaning us)) c.in-Ok.ensures.grammar in
     let h = subst (Judged ws) (sym e) (told, refl) in
     record { answers = exact (Judged ws) v h (λ u. judged_one ws v u h); roomy = never_short ws v h }
 

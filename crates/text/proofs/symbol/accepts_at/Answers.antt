@@ -7,6 +7,6 @@ returns-then-place-elements g c = sym (accepted_past g.E.Symbol.matches c.args.e
 
 pub returns : goal.returns
 returns g c =
-    c.accepted-by.ensures
+    c.accepted_by.ensures
     ∙ ap (g.E.Symbol.matches c.args.a c.args.b) c.index-elements-place.is
     ∙ sym (accepted_in g.E.Symbol.matches c.args.elements.now c.args.a c.args.b c.args.place c.index-elements-place.result c.if-place-elements.false)

@@ -1,0 +1,216 @@
+//! Keys on a site file, over both memories: what a bench answers after each of them.
+#![tactic(auto)]
+
+#[cfg(test)]
+mod tests {
+    use bench::calls::{change, clear, open, parse, settle};
+    use bench::state::Settled;
+    use engine::frame::Frame;
+    use grammar::accepted::{Grammar, check as accept};
+    use memo::memory::Memory;
+    use memo::ring::state::Ring;
+    use memo::whole::WholeMemory;
+    use peg::results::{Note, Outcome, Recoveries};
+    use reading::refusal::Refusal;
+    use reading::reply::{Answer, Reply};
+    use std::process::Abort;
+    use std::test::Fail;
+    use text::{ByteBuffer, EditRefusal, EditableText};
+
+    // Site files: rule 0 is lines and then the end, rule 1 a line, rule 2 a digit; label 1 is a missing semicolon.
+    static SITE: [u32; 23] = [
+        0x8044_0301,
+        0x9034_0000,
+        0x9024_0000,
+        0x9004_0000,
+        0xA040_0100,
+        0xB000_0001,
+        0x1130_4C00,
+        0x10C0_3901,
+        0x10EC_3B02,
+        0x1000_FF03,
+        0x2008_0000,
+        0x5010_0000,
+        0x7004_0000,
+        0x4008_0600,
+        0x3014_0700,
+        0x3000_0800,
+        0x2004_0000,
+        0x5028_0000,
+        0x600C_0000,
+        0x302C_0C00,
+        0x6000_0000,
+        0x3038_0300,
+        0x503C_0000,
+    ];
+
+    // A match of all, where a line could still begin; with one recovery at `slip`, if any.
+    fn matched(end: usize, slip: Option<usize>, fresh: u32) -> Reply {
+        let recoveries = match slip {
+            None => Recoveries {
+                count: 0,
+                label: 0,
+                place: 0,
+            },
+            Some(place) => Recoveries {
+                count: 1,
+                label: 1,
+                place,
+            },
+        };
+        Reply {
+            result: Ok(Answer {
+                outcome: Outcome::Match { end },
+                note: Some(Note {
+                    place: end,
+                    marks: 1,
+                }),
+                recoveries,
+            }),
+            fresh,
+        }
+    }
+
+    // Puts the items in at a place of a settled bench; the state comes back settled either way.
+    fn key<T: EditableText, M: Memory>(
+        state: Settled,
+        grammar: &Grammar<'_>,
+        text: &mut T,
+        memory: &mut M,
+        p: usize,
+        k: usize,
+        items: &[T::Element],
+    ) -> (Settled, Option<EditRefusal>) {
+        match change(state, grammar, text, memory, p, k, items) {
+            Ok(slip) => (settle(slip, grammar, text, memory), None),
+            Err((state, refusal)) => (state, Some(refusal)),
+        }
+    }
+
+    // The keys of one story, and what is answered; a memory that forgets may count more rows, so `counted` tells whether counts are compared.
+    fn story<M: Memory>(rt: &impl Abort, memory: &mut M, counted: bool) -> Result<(), Fail> {
+        let mut grammar = Grammar::smallest();
+        accept(&SITE, &mut [0; 34], &mut grammar)?;
+        let mut buffer = [0u8; 8];
+        buffer[0] = b'L';
+        buffer[1] = b'1';
+        buffer[2] = b'L';
+        buffer[3] = b'2';
+        buffer[4] = b';';
+        let (mut text, made) = ByteBuffer::new(&mut buffer, 5);
+        made?;
+        let mut frames = [Frame::blank(); 16];
+        let state = open(&grammar, &text, memory);
+        same(
+            rt,
+            parse(&state, &grammar, &text, memory, &mut frames),
+            matched(5, Some(2), 8),
+            counted,
+        )?;
+        same(
+            rt,
+            parse(&state, &grammar, &text, memory, &mut frames),
+            matched(5, Some(2), 0),
+            counted,
+        )?;
+        let (state, refusal) = key(state, &grammar, &mut text, memory, 2, 0, b";");
+        assert!(rt; refusal.is_none());
+        same(
+            rt,
+            parse(&state, &grammar, &text, memory, &mut frames),
+            matched(6, None, 3),
+            counted,
+        )?;
+        let (state, refusal) = key(state, &grammar, &mut text, memory, 5, 2, b"");
+        assert!(rt; refusal == Some(EditRefusal::Range));
+        let (state, refusal) = key(state, &grammar, &mut text, memory, 6, 0, b"L3;");
+        assert!(rt; refusal == Some(EditRefusal::Room));
+        same(
+            rt,
+            parse(&state, &grammar, &text, memory, &mut frames),
+            matched(6, None, 0),
+            counted,
+        )?;
+        let (state, refusal) = key(state, &grammar, &mut text, memory, 3, 3, b"");
+        assert!(rt; refusal.is_none());
+        same(
+            rt,
+            parse(&state, &grammar, &text, memory, &mut frames),
+            matched(3, None, 1),
+            counted,
+        )?;
+        clear(&state, &grammar, &text, memory);
+        same(
+            rt,
+            parse(&state, &grammar, &text, memory, &mut frames),
+            matched(3, None, 5),
+            true,
+        )?;
+        clear(&state, &grammar, &text, memory);
+        assert_eq!(rt;
+            parse(&state, &grammar, &text, memory, &mut [Frame::blank(); 7]),
+            Reply {
+                result: Err(Refusal::TooDeep),
+                fresh: 0,
+            }
+        );
+        Ok(())
+    }
+
+    fn same(rt: &impl Abort, found: Reply, expected: Reply, counted: bool) -> Result<(), Fail> {
+        if counted {
+            assert_eq!(rt; found, expected);
+            return Ok(());
+        }
+        assert_eq!(rt;
+            Reply { fresh: 0, ..found },
+            Reply {
+                fresh: 0,
+                ..expected
+            }
+        );
+        assert!(rt; expected.fresh <= found.fresh);
+        Ok(())
+    }
+
+    #[test]
+    fn over_the_whole_memory(rt: HostRuntime) -> Result<(), Fail> {
+        let mut words = [0u32; 432];
+        let (mut memory, made) = WholeMemory::new(&mut words, 9, 3);
+        made?;
+        story(&rt, &mut memory, true)
+    }
+
+    #[test]
+    fn over_the_ring(rt: HostRuntime) -> Result<(), Fail> {
+        story(&rt, &mut Ring::new(), false)
+    }
+
+    // The text's capacity is 8, which a memory of 8 places does not cover.
+    #[test]
+    fn not_covered(rt: HostRuntime) -> Result<(), Fail> {
+        let mut words = [0u32; 384];
+        let (mut memory, made) = WholeMemory::new(&mut words, 8, 3);
+        made?;
+        let mut grammar = Grammar::smallest();
+        accept(&SITE, &mut [0; 34], &mut grammar)?;
+        let mut buffer = [0u8; 8];
+        let (text, made) = ByteBuffer::new(&mut buffer, 0);
+        made?;
+        let state = open(&grammar, &text, &mut memory);
+        assert_eq!(rt;
+            parse(
+                &state,
+                &grammar,
+                &text,
+                &mut memory,
+                &mut [Frame::blank(); 8],
+            ),
+            Reply {
+                result: Err(Refusal::Uncovered),
+                fresh: 0,
+            }
+        );
+        Ok(())
+    }
+}
