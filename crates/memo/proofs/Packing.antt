@@ -24,9 +24,9 @@ unpacked_same f g h =
     (h 6 (omega arith)) (h 7 (omega arith))
 
 -- a row is its fields
-pub row_of : (y : Row) (matched : Bool) (label end : ℕ) (noted : Bool) (note marks recoveries first_label_lem first depth reach : ℕ)
+pub row_of : (y : Row) (matched : Bool) (label end : ℕ) (noted : Bool) (note marks recoveries recovered_label first depth reach : ℕ)
     → matched ≡ y.matched → label ≡ y.label → end ≡ y.end → noted ≡ y.noted → note ≡ y.note → marks ≡ y.marks
-    → recoveries ≡ y.recoveries → first_label_lem ≡ y.first_label → first ≡ y.first → depth ≡ y.depth → reach ≡ y.reach
+    → recoveries ≡ y.recoveries → recovered_label ≡ y.first_label → first ≡ y.first → depth ≡ y.depth → reach ≡ y.reach
     → ◌≡◌ {A = Row} (record {
       matched = matched;
       label = label;
@@ -35,7 +35,7 @@ pub row_of : (y : Row) (matched : Bool) (label end : ℕ) (noted : Bool) (note m
       note = note;
       marks = marks;
       recoveries = recoveries;
-      first_label = first_label_lem;
+      first_label = recovered_label;
       first = first;
       depth = depth;
       reach = reach;

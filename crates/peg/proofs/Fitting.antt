@@ -89,7 +89,7 @@ module _ (L n : ℕ) where
   told_fits v h = record {
     outcome = h.out;
     note = h.noted;
-    first_label_lem = summary_label v.recoveries h.rest;
+    first_label = summary_label v.recoveries h.rest;
     first_place = summary_place v.recoveries h.rest;
     reach = h.far;
   }

@@ -34,7 +34,7 @@ NoteFits n (Some x) = (x.place ≤ n) × (x.marks < 2 ^ 32)
 pub record Fits (L n : ℕ) (w : Reading) : Type 0 where
   pub outcome : OutcomeFits L n w.outcome
   pub note : NoteFits n w.note
-  pub first_label_lem : w.recoveries.label ≤ L
+  pub first_label : w.recoveries.label ≤ L
   pub first_place : w.recoveries.place ≤ n
   pub reach : w.reach ≤ n + 1
 

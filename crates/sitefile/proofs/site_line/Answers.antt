@@ -10,7 +10,7 @@ pub returns-in-Ok : goal.returns-in-Ok
 returns-in-Ok c =
     let input = c.args.input.now in
     let q = c.reply_to.result in
-    let new = c.new_text in
+    let new = c.new-text in
     let made = text_made input _ new.result.0 new.result.1 _ c.in-Ok.is new.ensures.count new.ensures.made c.fill.ensures.length c.fill.ensures.filled in
     let told = subst (λ xs. SoleReply xs q) made.1 (c.reply_to.ensures made.2) in
     IfOk-weaker c.format.result (λ line. string_bytes line ≡ reply_text q ++ (newline ∷ [])) (λ line. Shows input (string_bytes line)) (λ line e. shows_reply input (string_bytes line) q made.0 told e)
@@ -19,7 +19,7 @@ returns-in-Ok c =
 pub returns-in-Err : goal.returns-in-Err
 returns-in-Err c =
     let input = c.args.input.now in
-    let new = c.new_text in
+    let new = c.new-text in
     let full = c.fill.ensures.length in
     let x = c.in-Err.refusal in
     let many = too_many (length input) new.result.1 x c.in-Err.is (subst (BufferExactly new.result.1) full new.ensures.buffer) (subst (λ n. CountExactly new.result.1 n (length input)) full new.ensures.count) in

@@ -7,16 +7,16 @@ use Rattle.rowtext.proofs.Telling.{byte_low, nothing, bounds, one_more, closed, 
 use Rattle.rowtext.proofs.account.account.Goals as goal
 
 pub loop-line-init : goal.loop-line-init
-loop-line-init c = nothing c.args.input.now (string_bytes c.new_text.result) c.new_text.ensures.bytes
+loop-line-init c = nothing c.args.input.now (string_bytes c.new-text.result) c.new-text.ensures.bytes
 
 pub overflow_add-lines : goal.overflow_add-lines
-overflow_add-lines c = omega (arith, bounds c.loop-line.invariant, c.in-Some.ensures.falls, c.well-formed)
+overflow_add-lines c = omega (arith, bounds c.loop-line.invariant, c.in-Some.ensures.falls, c.well_formed)
 
 pub overflow_add-rows : goal.overflow_add-rows
-overflow_add-rows c = omega (arith, bounds c.loop-line.invariant, c.from.ensures, byte_low c.is_row.result, c.in-Some.ensures.falls, c.well-formed)
+overflow_add-rows c = omega (arith, bounds c.loop-line.invariant, c.from.ensures, byte_low c.is_row.result, c.in-Some.ensures.falls, c.well_formed)
 
 pub overflow_add-accepted : goal.overflow_add-accepted
-overflow_add-accepted c = omega (arith, bounds c.loop-line.invariant, c.from-in-Some.ensures, byte_low c.is_accepted.result, c.in-Some.ensures.falls, c.well-formed)
+overflow_add-accepted c = omega (arith, bounds c.loop-line.invariant, c.from-in-Some.ensures, byte_low c.is_accepted.result, c.in-Some.ensures.falls, c.well_formed)
 
 pub loop-line-smaller : goal.loop-line-smaller
 loop-line-smaller c = c.in-Some.ensures.falls

@@ -22,7 +22,7 @@ pub returns-in_err-word : goal.returns-in_err-word
 returns-in_err-word c =
     let bs = c.args.text.now in
     let some : 0 < length bs = omega (arith, eqb-false (length bs) 0 (sym c.if-is_empty.ensures)) in
-    c.from-residual.ensures
+    c.from_residual.ensures
     ∙ sym (exit bs c.loop-byte.byte-index c.loop-byte.word c.from.result c.loop-byte-test.true c.from.ensures c.in_err-word.ensures.value)
     ∙ c.loop-byte.invariant.0
     ∙ sym (counted bs some (omega arith))

@@ -8,7 +8,7 @@ invariant_of-self c =
     let es : List Entry = take c.args.self.now.count c.args.self.now.entries in
     let zs : List Entry = take c.enter-self.result c.enter-self.new.entries in
     let done = ring_puts es zs c.args.rule c.args.place c.args.mode c.args.row c.if-rule-lt-RULES.true c.if-place-lt-PLACES.true c.args.self.now.lawful c.enter-self.ensures.entered in
-    (c.enter-self.ensures.few, (done.lawful, tt))
+    record { few = c.enter-self.ensures.few; lawful = done.lawful }
 
 pub returns-then-place-lt-PLACES : goal.returns-then-place-lt-PLACES
 returns-then-place-lt-PLACES c =

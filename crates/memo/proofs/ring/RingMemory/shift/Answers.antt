@@ -8,7 +8,7 @@ invariant_of-self c =
     let es : List Entry = take c.args.self.now.count c.args.self.now.entries in
     let zs : List Entry = take c.shift_all-self.result c.shift_all-self.new.entries in
     let done = ring_shifts c.args.p c.args.k c.args.m es zs c.args.self.now.lawful c.shift_all-self.ensures.shifted in
-    (omega (arith, c.shift_all-self.ensures.few, c.args.self.now.few), (done.0, tt))
+    record { few = omega (arith, c.shift_all-self.ensures.few, c.args.self.now.few); lawful = done.0 }
 
 pub returns : goal.returns
 returns c =
