@@ -21,19 +21,19 @@ use text::{EditRefusal, EditableText, Text};
 
 /// Drops every row.
 fn forget<M: Memory>(memory: &mut M)
-    ensures empty { Empty (table memory.new) }
-    ensures places { P memory.new ≡ P memory.old }
-    ensures rules { Q memory.new ≡ Q memory.old }
+    ensures empty { Empty (M.table memory.new) }
+    ensures places { M.P memory.new ≡ M.P memory.old }
+    ensures rules { M.Q memory.new ≡ M.Q memory.old }
 {
     memory.empty();
 }
 
 /// Opens a bench: empties the memory.
 pub fn open<T: Text, M: Memory>(grammar: &Grammar<'_>, text: &T, memory: &mut M) -> Settled
-    ensures empty { Empty (table memory.new) }
-    ensures places { P memory.new ≡ P memory.old }
-    ensures rules { Q memory.new ≡ Q memory.old }
-    ensures run { Run fits (bounds keeps (P memory.new) (Q memory.new) (room text.now)) grammar.now.words.now (elements text.now) [] (elements text.now) (table memory.new) [] settled }
+    ensures empty { Empty (M.table memory.new) }
+    ensures places { M.P memory.new ≡ M.P memory.old }
+    ensures rules { M.Q memory.new ≡ M.Q memory.old }
+    ensures run { Run T.fits (bounds M.keeps (M.P memory.new) (M.Q memory.new) (T.room text.now)) grammar.now.words.now (T.elements text.now) [] (T.elements text.now) (M.table memory.new) [] settled }
 {
     let _ = text.capacity();
     forget(memory);
@@ -42,10 +42,10 @@ pub fn open<T: Text, M: Memory>(grammar: &Grammar<'_>, text: &T, memory: &mut M)
 
 /// Clears a settled bench: empties its memory.
 pub fn clear<T: Text, M: Memory>(_state: &Settled, grammar: &Grammar<'_>, text: &T, memory: &mut M)
-    ensures empty { Empty (table memory.new) }
-    ensures places { P memory.new ≡ P memory.old }
-    ensures rules { Q memory.new ≡ Q memory.old }
-    ensures run { GoesOn fits (bounds keeps (P memory.old) (Q memory.old) (room text.now)) (bounds keeps (P memory.new) (Q memory.new) (room text.now)) grammar.now.words.now (elements text.now) (elements text.now) (table memory.old) (table memory.new) settled settled }
+    ensures empty { Empty (M.table memory.new) }
+    ensures places { M.P memory.new ≡ M.P memory.old }
+    ensures rules { M.Q memory.new ≡ M.Q memory.old }
+    ensures run { GoesOn T.fits (bounds M.keeps (M.P memory.old) (M.Q memory.old) (T.room text.now)) (bounds M.keeps (M.P memory.new) (M.Q memory.new) (T.room text.now)) grammar.now.words.now (T.elements text.now) (T.elements text.now) (M.table memory.old) (M.table memory.new) settled settled }
 {
     forget(memory);
 }
@@ -57,10 +57,10 @@ pub fn settle<T: Text, M: Memory>(
     text: &T,
     memory: &mut M,
 ) -> Settled
-    ensures shifts { Shifts keeps (P memory.old) slip.p slip.k slip.m (table memory.old) (table memory.new) }
-    ensures places { P memory.new ≡ P memory.old }
-    ensures rules { Q memory.new ≡ Q memory.old }
-    ensures run { GoesOn fits (bounds keeps (P memory.old) (Q memory.old) (room text.now)) (bounds keeps (P memory.new) (Q memory.new) (room text.now)) grammar.now.words.now (elements text.now) (elements text.now) (table memory.old) (table memory.new) (out slip) settled }
+    ensures shifts { Shifts M.keeps (M.P memory.old) slip.p slip.k slip.m (M.table memory.old) (M.table memory.new) }
+    ensures places { M.P memory.new ≡ M.P memory.old }
+    ensures rules { M.Q memory.new ≡ M.Q memory.old }
+    ensures run { GoesOn T.fits (bounds M.keeps (M.P memory.old) (M.Q memory.old) (T.room text.now)) (bounds M.keeps (M.P memory.new) (M.Q memory.new) (T.room text.now)) grammar.now.words.now (T.elements text.now) (T.elements text.now) (M.table memory.old) (M.table memory.new) (out slip) settled }
 {
     let mut slip = slip;
     memory.shift(slip.p, slip.k, slip.m);
@@ -76,13 +76,13 @@ pub fn parse<T: Text, M: Memory>(
     memory: &mut M,
     frames: &mut [Frame],
 ) -> Reply
-    ensures law { Obeys fits (bounds keeps (P memory.old) (Q memory.old) (room text.now)) grammar.now.words.now (elements text.now) (table memory.old) (length frames.old) result (table memory.new) }
-    ensures replies { Replies (setting (meaning grammar.now.words.now) fits (elements text.now) (length frames.old) keeps (P memory.old) (Q memory.old)) (room text.now) (table memory.old) result (table memory.new) }
-    ensures promised { Promised (setting (meaning grammar.now.words.now) fits (elements text.now) (length frames.old) keeps (P memory.old) (Q memory.old)) (room text.now) (table memory.old) result (table memory.new) }
-    ensures run { GoesOn fits (bounds keeps (P memory.old) (Q memory.old) (room text.now)) (bounds keeps (P memory.new) (Q memory.new) (room text.now)) grammar.now.words.now (elements text.now) (elements text.now) (table memory.old) (table memory.new) settled settled }
+    ensures law { Obeys T.fits (bounds M.keeps (M.P memory.old) (M.Q memory.old) (T.room text.now)) grammar.now.words.now (T.elements text.now) (M.table memory.old) (length frames.old) result (M.table memory.new) }
+    ensures replies { Replies (setting (meaning grammar.now.words.now) T.fits (T.elements text.now) (length frames.old) M.keeps (M.P memory.old) (M.Q memory.old)) (T.room text.now) (M.table memory.old) result (M.table memory.new) }
+    ensures promised { Promised (setting (meaning grammar.now.words.now) T.fits (T.elements text.now) (length frames.old) M.keeps (M.P memory.old) (M.Q memory.old)) (T.room text.now) (M.table memory.old) result (M.table memory.new) }
+    ensures run { GoesOn T.fits (bounds M.keeps (M.P memory.old) (M.Q memory.old) (T.room text.now)) (bounds M.keeps (M.P memory.new) (M.Q memory.new) (T.room text.now)) grammar.now.words.now (T.elements text.now) (T.elements text.now) (M.table memory.old) (M.table memory.new) settled settled }
     ensures blank { frames.new ≡ blanked frames.old }
-    ensures places { P memory.new ≡ P memory.old }
-    ensures rules { Q memory.new ≡ Q memory.old }
+    ensures places { M.P memory.new ≡ M.P memory.old }
+    ensures rules { M.Q memory.new ≡ M.Q memory.old }
 {
     read(grammar, text, memory, frames)
 }

@@ -20,8 +20,8 @@ pub fn parse_whole<T: Text>(
     memory: &mut WholeMemory<'_>,
     frames: &mut [Frame],
 ) -> Reply
-    ensures law { Obeys fits (bounds true (p_of memory.old) (q_of memory.old) (room text.now)) grammar.now.words.now (elements text.now) (table_of memory.old) (length frames.old) result (table_of memory.new) }
-    ensures counts { CountsExactly fits (bounds true (p_of memory.old) (q_of memory.old) (room text.now)) grammar.now.words.now (elements text.now) (table_of memory.old) (length frames.old) result }
+    ensures law { Obeys T.fits (bounds true (p_of memory.old) (q_of memory.old) (T.room text.now)) grammar.now.words.now (T.elements text.now) (table_of memory.old) (length frames.old) result (table_of memory.new) }
+    ensures counts { CountsExactly T.fits (bounds true (p_of memory.old) (q_of memory.old) (T.room text.now)) grammar.now.words.now (T.elements text.now) (table_of memory.old) (length frames.old) result }
     ensures blank { frames.new ≡ blanked frames.old }
     ensures places { p_of memory.new ≡ p_of memory.old }
     ensures rules { q_of memory.new ≡ q_of memory.old }

@@ -44,7 +44,7 @@ fn fresh(expression: usize, place: usize, mode: Mode) -> Frame
 /// A terminal.
 fn terminal<T: Text>(text: &T, a: u32, b: u32, mark: u32, place: usize) -> Reading
     requires { (mark < 32) × (place < 2 ^ 63) }
-    ensures { result ≡ read_terminal (accepted fits (elements text.now) a b place) mark place }
+    ensures { result ≡ read_terminal (accepted T.fits (T.elements text.now) a b place) mark place }
 {
     if text.accepts(a, b, place) {
         alone(place, Outcome::Match { end: place + 1 }, None)
@@ -80,12 +80,12 @@ fn enter_call<T: Text, M: Memory>(
     place: usize,
     mode: Mode,
 ) -> Result<Move, Refusal>
-    requires sane { Sane (setting (meaning grammar.now.words.now) fits (elements text.now) frames keeps (P memory.now) (Q memory.now)) }
+    requires sane { Sane (setting (meaning grammar.now.words.now) T.fits (T.elements text.now) frames M.keeps (M.P memory.now) (M.Q memory.now)) }
     requires known { expression < (meaning grammar.now.words.now).N }
-    requires within { place ≤ length (elements text.now) }
+    requires within { place ≤ length (T.elements text.now) }
     requires level { height < frames }
     requires call { (meaning grammar.now.words.now).expr expression ≡ Call rule }
-    ensures { (n : ℕ) → Entered (setting (meaning grammar.now.words.now) fits (elements text.now) frames keeps (P memory.now) (Q memory.now)) (store (table memory.now) n) height expression place mode result }
+    ensures { (n : ℕ) → Entered (setting (meaning grammar.now.words.now) T.fits (T.elements text.now) frames M.keeps (M.P memory.now) (M.Q memory.now)) (store (M.table memory.now) n) height expression place mode result }
 {
     match memory.look(rule, place, mode) {
         None => Ok(Move::Open {
@@ -122,10 +122,10 @@ pub(crate) fn enter<T: Text, M: Memory>(
     place: usize,
     mode: Mode,
 ) -> Result<Move, Refusal>
-    requires sane { Sane (setting (meaning grammar.now.words.now) fits (elements text.now) frames keeps (P memory.now) (Q memory.now)) }
+    requires sane { Sane (setting (meaning grammar.now.words.now) T.fits (T.elements text.now) frames M.keeps (M.P memory.now) (M.Q memory.now)) }
     requires known { expression < (meaning grammar.now.words.now).N }
-    requires within { place ≤ length (elements text.now) }
-    ensures { (n : ℕ) → Entered (setting (meaning grammar.now.words.now) fits (elements text.now) frames keeps (P memory.now) (Q memory.now)) (store (table memory.now) n) height expression place mode result }
+    requires within { place ≤ length (T.elements text.now) }
+    ensures { (n : ℕ) → Entered (setting (meaning grammar.now.words.now) T.fits (T.elements text.now) frames M.keeps (M.P memory.now) (M.Q memory.now)) (store (M.table memory.now) n) height expression place mode result }
 {
     if height >= frames {
         return Err(Refusal::TooDeep);

@@ -44,11 +44,11 @@ fn root<T: Text, M: Memory>(
     fresh: &mut u32,
     frames: &mut [Frame],
 ) -> Result<Reading, Refusal>
-    requires sane { Sane (setting (meaning grammar.now.words.now) fits (elements text.now) (length frames.old) keeps (P memory.old) (Q memory.old)) }
+    requires sane { Sane (setting (meaning grammar.now.words.now) T.fits (T.elements text.now) (length frames.old) M.keeps (M.P memory.old) (M.Q memory.old)) }
     requires some { 0 < (meaning grammar.now.words.now).R }
-    ensures reads { Reads (setting (meaning grammar.now.words.now) fits (elements text.now) (length frames.old) keeps (P memory.old) (Q memory.old)) 0 (store (table memory.old) fresh.old) (rule 0) 0 On result (store (table memory.new) fresh.new) }
-    ensures places { P memory.new ≡ P memory.old }
-    ensures rules { Q memory.new ≡ Q memory.old }
+    ensures reads { Reads (setting (meaning grammar.now.words.now) T.fits (T.elements text.now) (length frames.old) M.keeps (M.P memory.old) (M.Q memory.old)) 0 (store (M.table memory.old) fresh.old) (rule 0) 0 On result (store (M.table memory.new) fresh.new) }
+    ensures places { M.P memory.new ≡ M.P memory.old }
+    ensures rules { M.Q memory.new ≡ M.Q memory.old }
 {
     match memory.look(0, 0, Mode::On) {
         Some(row) => found(grammar, text.size(), frames.len(), 0, 0, Mode::On, row),
@@ -80,11 +80,11 @@ pub fn read<T: Text, M: Memory>(
     memory: &mut M,
     frames: &mut [Frame],
 ) -> Reply
-    ensures replies { Replies (setting (meaning grammar.now.words.now) fits (elements text.now) (length frames.old) keeps (P memory.old) (Q memory.old)) (room text.now) (table memory.old) result (table memory.new) }
-    ensures promised { Promised (setting (meaning grammar.now.words.now) fits (elements text.now) (length frames.old) keeps (P memory.old) (Q memory.old)) (room text.now) (table memory.old) result (table memory.new) }
+    ensures replies { Replies (setting (meaning grammar.now.words.now) T.fits (T.elements text.now) (length frames.old) M.keeps (M.P memory.old) (M.Q memory.old)) (T.room text.now) (M.table memory.old) result (M.table memory.new) }
+    ensures promised { Promised (setting (meaning grammar.now.words.now) T.fits (T.elements text.now) (length frames.old) M.keeps (M.P memory.old) (M.Q memory.old)) (T.room text.now) (M.table memory.old) result (M.table memory.new) }
     ensures blank { frames.new ≡ blanked frames.old }
-    ensures places { P memory.new ≡ P memory.old }
-    ensures rules { Q memory.new ≡ Q memory.old }
+    ensures places { M.P memory.new ≡ M.P memory.old }
+    ensures rules { M.Q memory.new ≡ M.Q memory.old }
 {
     let guard = Guard { frames };
     if !covers(

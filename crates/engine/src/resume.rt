@@ -224,9 +224,9 @@ fn after_call<M: Memory>(
 ) -> Move
     requires shallow { Shallow frame v }
     requires fine { Fine v }
-    ensures resumed { (G : Setting) (h : ℕ) → G.keeps ≡ keeps → G.P ≡ P memory.old → G.Q ≡ Q memory.old → Sane G → Awaiting G h frame v → G.grammar.expr frame.expression ≡ Call rule → Resumed G (store (table memory.old) fresh.old) (store (table memory.new) fresh.new) h frame v result }
-    ensures places { P memory.new ≡ P memory.old }
-    ensures rules { Q memory.new ≡ Q memory.old }
+    ensures resumed { (G : Setting) (h : ℕ) → G.keeps ≡ M.keeps → G.P ≡ M.P memory.old → G.Q ≡ M.Q memory.old → Sane G → Awaiting G h frame v → G.grammar.expr frame.expression ≡ Call rule → Resumed G (store (M.table memory.old) fresh.old) (store (M.table memory.new) fresh.new) h frame v result }
+    ensures places { M.P memory.new ≡ M.P memory.old }
+    ensures rules { M.Q memory.new ≡ M.Q memory.old }
 {
     memory.put(
         rule,
@@ -248,9 +248,9 @@ pub(crate) fn resume<M: Memory>(
     v: Reading,
 ) -> Move
     requires { Handed (meaning grammar.now.words.now) level frame v }
-    ensures resumed { (G : Setting) → G.grammar ≡ meaning grammar.now.words.now → G.keeps ≡ keeps → G.P ≡ P memory.old → G.Q ≡ Q memory.old → Sane G → Awaiting G level frame v → Resumed G (store (table memory.old) fresh.old) (store (table memory.new) fresh.new) level frame v result }
-    ensures places { P memory.new ≡ P memory.old }
-    ensures rules { Q memory.new ≡ Q memory.old }
+    ensures resumed { (G : Setting) → G.grammar ≡ meaning grammar.now.words.now → G.keeps ≡ M.keeps → G.P ≡ M.P memory.old → G.Q ≡ M.Q memory.old → Sane G → Awaiting G level frame v → Resumed G (store (M.table memory.old) fresh.old) (store (M.table memory.new) fresh.new) level frame v result }
+    ensures places { M.P memory.new ≡ M.P memory.old }
+    ensures rules { M.Q memory.new ≡ M.Q memory.old }
 {
     match grammar.expr(frame.expression) {
         Expr::Empty => unreachable(),

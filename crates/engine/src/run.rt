@@ -25,12 +25,12 @@ pub(crate) fn evaluate<T: Text, M: Memory>(
     frames: &mut [Frame],
     root: usize,
 ) -> Result<Reading, Refusal>
-    requires sane { Sane (setting (meaning grammar.now.words.now) fits (elements text.now) (length frames.old) keeps (P memory.old) (Q memory.old)) }
+    requires sane { Sane (setting (meaning grammar.now.words.now) T.fits (T.elements text.now) (length frames.old) M.keeps (M.P memory.old) (M.Q memory.old)) }
     requires known { root < (meaning grammar.now.words.now).N }
-    ensures reads { Reads (setting (meaning grammar.now.words.now) fits (elements text.now) (length frames.old) keeps (P memory.old) (Q memory.old)) 0 (store (table memory.old) fresh.old) (expression root) 0 On result (store (table memory.new) fresh.new) }
+    ensures reads { Reads (setting (meaning grammar.now.words.now) T.fits (T.elements text.now) (length frames.old) M.keeps (M.P memory.old) (M.Q memory.old)) 0 (store (M.table memory.old) fresh.old) (expression root) 0 On result (store (M.table memory.new) fresh.new) }
     ensures fine { IfOk result (λ v. Fine v) }
-    ensures places { P memory.new ≡ P memory.old }
-    ensures rules { Q memory.new ≡ Q memory.old }
+    ensures places { M.P memory.new ≡ M.P memory.old }
+    ensures rules { M.Q memory.new ≡ M.Q memory.old }
 {
     let count = frames.len();
     let mut height = 0;
