@@ -22,6 +22,7 @@ use Rattle.reading.proofs.Once.{none}
 use Rattle.bench.specs.Runs.{State, settled, slip_out, Change, Run, opened, changed, change_refused, shifted, parsed, parse_uncovered, cleared}
 use Rattle.bench.specs.Calls.{bounds}
 use Rattle.bench.specs.Tour.{smallest_row, no_rows, one_row, root, letter_put_in, Toured}
+use Rattle.bench.specs.Called.{TouredByCalls}
 
 module _ (keeps : Bool) where
   abbrev b : Bounds
@@ -78,3 +79,7 @@ module _ (keeps : Bool) where
 
 pub toured : (keeps : Bool) → Toured keeps
 toured keeps = record { parses = parses keeps; changes = changes keeps; settles = settles keeps; uncovered = not_covered keeps }
+
+pub toured_by_calls : (keeps : Bool) → TouredByCalls keeps
+unfolding parses changes settles not_covered
+toured_by_calls keeps = record { parses = (parses keeps, refl); changes = (changes keeps, refl); settles = (settles keeps, refl); uncovered = (not_covered keeps, refl) }

@@ -1,12 +1,13 @@
 -- What the calls promise, in terms of runs.
-use Rattle.std.specs.Prelude.{◌≡◌, ℕ, ◌+◌, ◌-◌, ◌<◌, ◌≤◌, Bool, List, ◌∷◌, length, Ok, Err, Result}
+use Rattle.std.specs.Prelude.{◌≡◌, ℕ, ◌+◌, ◌-◌, ◌<◌, ◌≤◌, Bool, List, [], ◌∷◌, length, Ok, Err, Result}
 use Rattle.text.specs.declared.EditRefusal.{EditRefusal}
 use Rattle.grammar.specs.declared.expr.Mode.TheVariants.{On}
 use Rattle.grammar.specs.Words.{meaning}
 use Rattle.text.specs.Meaning.{accepted}
 use Rattle.text.specs.Refusals.{edit_number, Iff}
 use Rattle.peg.specs.Results.{RulePlace}
-use Rattle.peg.specs.Counting.{fresh, most_places}
+use Rattle.peg.specs.Counting.{fresh, learned, most_places}
+use Rattle.peg.specs.Settling.{Settles}
 use Rattle.memo.specs.Tables.{Table}
 use Rattle.reading.specs.declared.reply.Reply.{Reply}
 use Rattle.reading.specs.Reads.{Res}
@@ -55,3 +56,36 @@ abbrev pub CountsExactly : {E : Type 0} → (ℕ → ℕ → E → Bool) → Bou
 CountsExactly {E} fits b ws xs T frames q = (first : List E) (cs : List (Change E)) (ks : List RulePlace) → Run fits b ws first cs xs T ks settled
     → Covering (meaning ws) b → (s : Res) (zs : List RulePlace) → RuleComes (meaning ws) (accepted fits xs) frames 0 0 On s zs
     → (q.fresh ≡ fresh ks zs) × (q.fresh ≤ most_places (meaning ws).R (length xs))
+
+-- runs with these changes end here: there are rule-places known as After says, and with each such list known there is a run
+abbrev pub RunsKnowing : {E : Type 0} → (ℕ → ℕ → E → Bool) → Bounds → List ℕ → List E → List (Change E) → List E → Table → State → (List RulePlace → Type 0) → Type 0
+RunsKnowing fits b ws first cs xs T s After = ((ls : List RulePlace) × After ls) × ((ls : List RulePlace) → After ls → Run fits b ws first cs xs T ls s)
+
+-- every run that ended before a call goes on with it; After relates the rule-places known before it to those known after it
+abbrev pub GoesOnKnowing : {E : Type 0} → (ℕ → ℕ → E → Bool) → Bounds → Bounds → List ℕ → List E → List E → Table → Table → State → State → (List RulePlace → List RulePlace → Type 0) → Type 0
+GoesOnKnowing {E} fits b b' ws xs ys T U s s' After = (first : List E) (cs : List (Change E)) (ks : List RulePlace) → Run fits b ws first cs xs T ks s → RunsKnowing fits b' ws first cs ys U s' (After ks)
+
+-- all that was known ends
+abbrev pub EndsKnown : List RulePlace → List RulePlace → Type 0
+EndsKnown ks ls = ls ≡ []
+
+-- just what was known stays known
+abbrev pub StaysKnown : List RulePlace → List RulePlace → Type 0
+StaysKnown ks ls = ls ≡ ks
+
+-- what a parse with so many frames makes known
+pub data Learns {E : Type 0} (fits : ℕ → ℕ → E → Bool) (b : Bounds) (ws : List ℕ) (xs : List E) (frames : ℕ) (ks : List RulePlace) : List RulePlace → Type 0 where
+  -- past question 8: what plain evaluation within its frames completes
+  learns : {s : Res} {zs : List RulePlace} → Covering (meaning ws) b → RuleComes (meaning ws) (accepted fits xs) frames 0 0 On s zs → Learns fits b ws xs frames ks (learned ks zs)
+  -- where question 8 refuses: nothing
+  learns_nothing : (Covering (meaning ws) b → ⊥) → Learns fits b ws xs frames ks ks
+
+-- every run that ended settled goes on with a parse
+abbrev pub ParsesOn : {E : Type 0} → (ℕ → ℕ → E → Bool) → Bounds → Bounds → List ℕ → List E → Table → Table → ℕ → Type 0
+ParsesOn fits b b' ws xs T U frames = GoesOnKnowing fits b b' ws xs xs T U settled settled (Learns fits b ws xs frames)
+
+-- every run that ended settled goes on with a change: accepted, with the change made, its slip out, and the known rule-places kept or moved; refused, as it was
+abbrev pub ChangesOnKnowing : {E : Type 0} → Result Slip (Settled × EditRefusal) → (ℕ → ℕ → E → Bool) → Bounds → Bounds → List ℕ → List E → List E → Table → ℕ → ℕ → List E → Type 0
+ChangesOnKnowing {E} (Ok s) fits b b' ws xs zs T p k ys = (first : List E) (cs : List (Change E)) (ks : List RulePlace) → Run fits b ws first cs xs T ks settled
+    → RunsKnowing fits b' ws first (record { place = p; removed = k; inserted = ys } ∷ cs) zs T (out s) (Settles (meaning ws) (accepted fits xs) p k (length ys) ks)
+ChangesOnKnowing (Err e) fits b b' ws xs zs T p k ys = GoesOnKnowing fits b b' ws xs zs T T settled settled StaysKnown

@@ -3,3 +3,4 @@ pub mod Law
 pub mod Slips
 pub mod Calls
 pub mod Tour
+pub mod Called

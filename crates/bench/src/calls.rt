@@ -4,11 +4,11 @@ ghost use Rattle.grammar.specs.Words.{meaning};
 ghost use Rattle.memo.specs.Tables.{Empty, Shifts};
 ghost use Rattle.bench.specs.Runs.{settled, Run};
 ghost use Rattle.text.specs.Meaning.{replaced};
-ghost use Rattle.reading.specs.Promises.{Promised};
+ghost use Rattle.reading.specs.Promises.{Promised, PromisedByNumber};
 ghost use Rattle.reading.specs.Reads.{setting};
-ghost use Rattle.reading.specs.Replies.{Replies};
+ghost use Rattle.reading.specs.Replies.{RefusedBy, Replies};
 ghost use Rattle.engine.specs.Frames.{blanked};
-ghost use Rattle.bench.specs.Calls.{bounds, ChangesOn, GoesOn, Numbered, Obeys};
+ghost use Rattle.bench.specs.Calls.{bounds, ChangesOn, ChangesOnKnowing, EndsKnown, GoesOn, GoesOnKnowing, Numbered, Obeys, ParsesOn, StaysKnown};
 ghost use Rattle.bench.specs.Slips.{out};
 
 use crate::state::{SPENT, Settled, Slip};
@@ -46,6 +46,7 @@ pub fn clear<T: Text, M: Memory>(_state: &Settled, grammar: &Grammar<'_>, text: 
     ensures places { M.P memory.new ≡ M.P memory.old }
     ensures rules { M.Q memory.new ≡ M.Q memory.old }
     ensures run { GoesOn T.fits (bounds M.keeps (M.P memory.old) (M.Q memory.old) (T.room text.now)) (bounds M.keeps (M.P memory.new) (M.Q memory.new) (T.room text.now)) grammar.now.words.now (T.elements text.now) (T.elements text.now) (M.table memory.old) (M.table memory.new) settled settled }
+    ensures known { GoesOnKnowing T.fits (bounds M.keeps (M.P memory.old) (M.Q memory.old) (T.room text.now)) (bounds M.keeps (M.P memory.new) (M.Q memory.new) (T.room text.now)) grammar.now.words.now (T.elements text.now) (T.elements text.now) (M.table memory.old) (M.table memory.new) settled settled EndsKnown }
 {
     forget(memory);
 }
@@ -61,6 +62,7 @@ pub fn settle<T: Text, M: Memory>(
     ensures places { M.P memory.new ≡ M.P memory.old }
     ensures rules { M.Q memory.new ≡ M.Q memory.old }
     ensures run { GoesOn T.fits (bounds M.keeps (M.P memory.old) (M.Q memory.old) (T.room text.now)) (bounds M.keeps (M.P memory.new) (M.Q memory.new) (T.room text.now)) grammar.now.words.now (T.elements text.now) (T.elements text.now) (M.table memory.old) (M.table memory.new) (out slip) settled }
+    ensures known { GoesOnKnowing T.fits (bounds M.keeps (M.P memory.old) (M.Q memory.old) (T.room text.now)) (bounds M.keeps (M.P memory.new) (M.Q memory.new) (T.room text.now)) grammar.now.words.now (T.elements text.now) (T.elements text.now) (M.table memory.old) (M.table memory.new) (out slip) settled StaysKnown }
 {
     let mut slip = slip;
     memory.shift(slip.p, slip.k, slip.m);
@@ -79,7 +81,10 @@ pub fn parse<T: Text, M: Memory>(
     ensures law { Obeys T.fits (bounds M.keeps (M.P memory.old) (M.Q memory.old) (T.room text.now)) grammar.now.words.now (T.elements text.now) (M.table memory.old) (length frames.old) result (M.table memory.new) }
     ensures replies { Replies (setting (meaning grammar.now.words.now) T.fits (T.elements text.now) (length frames.old) M.keeps (M.P memory.old) (M.Q memory.old)) (T.room text.now) (M.table memory.old) result (M.table memory.new) }
     ensures promised { Promised (setting (meaning grammar.now.words.now) T.fits (T.elements text.now) (length frames.old) M.keeps (M.P memory.old) (M.Q memory.old)) (T.room text.now) (M.table memory.old) result (M.table memory.new) }
+    ensures numbered { PromisedByNumber (setting (meaning grammar.now.words.now) T.fits (T.elements text.now) (length frames.old) M.keeps (M.P memory.old) (M.Q memory.old)) (T.room text.now) (M.table memory.old) result (M.table memory.new) }
     ensures run { GoesOn T.fits (bounds M.keeps (M.P memory.old) (M.Q memory.old) (T.room text.now)) (bounds M.keeps (M.P memory.new) (M.Q memory.new) (T.room text.now)) grammar.now.words.now (T.elements text.now) (T.elements text.now) (M.table memory.old) (M.table memory.new) settled settled }
+    ensures known { ParsesOn T.fits (bounds M.keeps (M.P memory.old) (M.Q memory.old) (T.room text.now)) (bounds M.keeps (M.P memory.new) (M.Q memory.new) (T.room text.now)) grammar.now.words.now (T.elements text.now) (M.table memory.old) (M.table memory.new) (length frames.old) }
+    ensures unchanged { RefusedBy 8 result → memory.new ≡ memory.old }
     ensures blank { frames.new ≡ blanked frames.old }
     ensures places { M.P memory.new ≡ M.P memory.old }
     ensures rules { M.Q memory.new ≡ M.Q memory.old }
@@ -102,6 +107,7 @@ pub fn change<T: EditableText, M: Memory>(
     ensures text { MatchResult result (λ _. T.Text.elements text.new ≡ replaced (T.Text.elements text.old) p k items.now) (λ _. text.new ≡ text.old) }
     ensures capacity { T.Text.room text.new ≡ T.Text.room text.old }
     ensures run { ChangesOn result T.Text.fits (bounds M.Memory.keeps (M.Memory.P memory.now) (M.Memory.Q memory.now) (T.Text.room text.old)) (bounds M.Memory.keeps (M.Memory.P memory.now) (M.Memory.Q memory.now) (T.Text.room text.new)) grammar.now.words.now (T.Text.elements text.old) (T.Text.elements text.new) (M.Memory.table memory.now) p k items.now }
+    ensures known { ChangesOnKnowing result T.Text.fits (bounds M.Memory.keeps (M.Memory.P memory.now) (M.Memory.Q memory.now) (T.Text.room text.old)) (bounds M.Memory.keeps (M.Memory.P memory.now) (M.Memory.Q memory.now) (T.Text.room text.new)) grammar.now.words.now (T.Text.elements text.old) (T.Text.elements text.new) (M.Memory.table memory.now) p k items.now }
 {
     match text.replace(p, k, items) {
         Ok(()) => Ok(Slip {

@@ -4,6 +4,7 @@
 ghost use Rattle.std.specs.Prelude.{true, false};
 ghost use Rattle.bench.specs.Law.{Law};
 ghost use Rattle.bench.specs.Tour.{Toured};
+ghost use Rattle.bench.specs.Called.{TouredByCalls};
 
 pub mod calls;
 pub mod state;
@@ -20,6 +21,8 @@ pub fn law_over_runs<E>() -> u8
 pub fn runs_there_are() -> u8
     ensures keeping { Toured true }
     ensures forgetting { Toured false }
+    ensures keeping_calls { TouredByCalls true }
+    ensures forgetting_calls { TouredByCalls false }
 {
     0
 }

@@ -12,7 +12,7 @@ use Rattle.reading.specs.declared.refusal.Refusal.{Refusal}
 use Rattle.reading.specs.declared.refusal.Refusal.TheVariants.{Uncovered}
 use Rattle.reading.specs.declared.reply.Answer.{Answer}
 use Rattle.reading.specs.Reads.{Setting, setting, Store, store, Res, rule, Reads}
-use Rattle.reading.specs.Replies.{answer_of, Replies, uncovered, covered}
+use Rattle.reading.specs.Replies.{Covers, answer_of, Replies, uncovered, covered}
 use Rattle.reading.specs.declared.reply.Reply.{Reply}
 use Rattle.reading.specs.Promises.{Promised}
 use Rattle.reading.proofs.Promises.{promised}
@@ -34,6 +34,10 @@ sane ws ok fits xs k keeps P Q small = record {
   inside = inside fits xs;
   small = small;
 }
+
+-- question 8 is answered yes, from the numbers that the code compares
+pub covers_as : (G : Setting) (cap p c q r : ℕ) → p ≡ G.P → c ≡ cap → q ≡ G.Q → r ≡ G.grammar.R → (c < p) × (r ≤ q) → Covers G cap
+covers_as G cap p c q r ep ec eq er yes8 = let a = yes8.0 in let b = yes8.1 in (omega arith, omega arith)
 
 module _ (G : Setting) (cap : ℕ) (T : Table) (p c q r : ℕ) (ep : p ≡ G.P) (ec : c ≡ cap) (eq : q ≡ G.Q) (er : r ≡ G.grammar.R) where
   -- question 8, from the numbers that the code compares

@@ -6,8 +6,8 @@ ghost use Rattle.grammar.specs.Words.{meaning};
 ghost use Rattle.engine.specs.Frames.{blanked};
 ghost use Rattle.reading.specs.Reads.{setting, store, rule, Reads};
 ghost use Rattle.engine.specs.Machine.{Sane};
-ghost use Rattle.reading.specs.Promises.{Promised};
-ghost use Rattle.reading.specs.Replies.{answer_of, Replies};
+ghost use Rattle.reading.specs.Promises.{Promised, PromisedByNumber};
+ghost use Rattle.reading.specs.Replies.{answer_of, RefusedBy, Replies};
 
 use crate::find::found;
 use crate::frame::Frame;
@@ -72,7 +72,8 @@ fn covers(places: usize, capacity: usize, rules: usize, needed: usize) -> bool
 
 /// Reads a text by a grammar: rule 0 at place 0 in mode on.
 ///
-/// The reply and the rows left are those of a reading (`replies`); what that promises, by number and in the words of the rules, is `promised`.
+/// The reply and the rows left are those of a reading (`replies`); what that promises, in the words of the rules and by number, is `promised`
+/// and `numbered`.
 /// The frames come back blank on every way out, whatever they held; their number bounds the depth.
 pub fn read<T: Text, M: Memory>(
     grammar: &Grammar<'_>,
@@ -82,6 +83,8 @@ pub fn read<T: Text, M: Memory>(
 ) -> Reply
     ensures replies { Replies (setting (meaning grammar.now.words.now) T.fits (T.elements text.now) (length frames.old) M.keeps (M.P memory.old) (M.Q memory.old)) (T.room text.now) (M.table memory.old) result (M.table memory.new) }
     ensures promised { Promised (setting (meaning grammar.now.words.now) T.fits (T.elements text.now) (length frames.old) M.keeps (M.P memory.old) (M.Q memory.old)) (T.room text.now) (M.table memory.old) result (M.table memory.new) }
+    ensures numbered { PromisedByNumber (setting (meaning grammar.now.words.now) T.fits (T.elements text.now) (length frames.old) M.keeps (M.P memory.old) (M.Q memory.old)) (T.room text.now) (M.table memory.old) result (M.table memory.new) }
+    ensures unchanged { RefusedBy 8 result → memory.new ≡ memory.old }
     ensures blank { frames.new ≡ blanked frames.old }
     ensures places { M.P memory.new ≡ M.P memory.old }
     ensures rules { M.Q memory.new ≡ M.Q memory.old }

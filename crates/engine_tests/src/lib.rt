@@ -126,8 +126,7 @@ mod tests {
     }
 
     // Each reason for number 9, beside a row that just fits.
-    #[test]
-    fn rows_fit_or_not(rt: HostRuntime) -> Result<(), Fail> {
+    fn fit_or_not<M: Memory>(rt: &impl Abort, memory: &mut M) -> Result<(), Fail> {
         let failed = Row {
             matched: false,
             ..ROW
@@ -163,15 +162,27 @@ mod tests {
                 },
             ),
         ];
-        let mut ring = Ring::new();
         for (fitting, unfit) in table.iter() {
-            assert!(rt; with_second_line(&rt, &mut ring, *fitting)?.result.is_ok());
+            assert!(rt; with_second_line(rt, memory, *fitting)?.result.is_ok());
             assert_eq!(rt;
-                with_second_line(&rt, &mut ring, *unfit)?,
+                with_second_line(rt, memory, *unfit)?,
                 refused(Refusal::Unfit, 0)
             );
         }
         Ok(())
+    }
+
+    #[test]
+    fn rows_fit_or_not(rt: HostRuntime) -> Result<(), Fail> {
+        fit_or_not(&rt, &mut Ring::new())
+    }
+
+    #[test]
+    fn rows_fit_or_not_in_a_whole_memory(rt: HostRuntime) -> Result<(), Fail> {
+        let mut words = [0; 192];
+        let (mut memory, made) = WholeMemory::new(&mut words, 4, 3);
+        made?;
+        fit_or_not(&rt, &mut memory)
     }
 
     // Numbers that carry no meaning are not tried; and a rule that may match nothing may have a row of that.

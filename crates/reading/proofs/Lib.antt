@@ -7,4 +7,5 @@ pub mod Truth
 pub mod Counts
 pub mod Shifting
 pub mod Steps
+pub mod Numbers
 pub mod Promises

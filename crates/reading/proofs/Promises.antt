@@ -1,5 +1,5 @@
 -- Every reading keeps its promises.
-use Rattle.std.proofs.Common.{◌≡◌, ℕ, ◌<◌, true, ◌↔◌, Ok, Err, refl, ap, subst}
+use Rattle.std.proofs.Common.{◌≡◌, ℕ, ◌<◌, true, ◌↔◌, List, [], Ok, Err, refl, ap, subst}
 use Rattle.grammar.specs.declared.expr.Mode.{Mode}
 use Rattle.grammar.specs.declared.expr.Mode.TheVariants.{On}
 use Rattle.peg.specs.declared.results.Reading.{Reading}
@@ -10,10 +10,13 @@ use Rattle.reading.specs.declared.reply.Reply.{Reply}
 use Rattle.reading.specs.Reads.{Setting, Store, store, Res, Asked, rule, Reads, each}
 use Rattle.reading.specs.Replies.{answer_of, Covers, Replies, uncovered, covered}
 use Rattle.reading.specs.Truth.{Proper}
-use Rattle.reading.specs.Promises.{Refused, Promised}
+use Rattle.reading.specs.Putting.{Gone}
+use Rattle.reading.specs.Once.{ReplyDrops}
+use Rattle.reading.specs.Promises.{Refused, DroppedUndecided, Promised, PromisedByNumber}
 use Rattle.reading.proofs.Once.{none, at_most_one}
 use Rattle.reading.proofs.Truth.{reply_stands, none_false}
 use Rattle.reading.proofs.Counts.{reply_counted}
+use Rattle.reading.proofs.Numbers.{of_number, by_number}
 
 -- a result is handed on, and so is a refusal
 each_back : (f : Reading → Reading) (r : Res) (z : Refusal) → each f r ≡ Err z → r ≡ Err z
@@ -66,6 +69,13 @@ module _ (G : Setting) where
       (λ y. ap (λ p. p.result) (only k (covered c d) _ _ (covered c y.1.1)).0),
     )
 
+    drops : {U : Table} {q : Reply} → (d : Replies G capacity T q U) → (gs : List Gone) × ReplyDrops d gs
+    drops (uncovered u) = ([], tt)
+    drops (covered {r = r} {U = U} c d) = let s = at_most_one.some_drops G 0 0 (store T 0) U (rule 0) On r d in (s.0, ([], s.1))
+
+    given : {U : Table} {q : Reply} → Replies G capacity T q U → DroppedUndecided G capacity T q U
+    given {U} {q} d = ((drops d).0, (d, (drops d).1), λ p W e x. at_most_one.reply_given_drops G capacity T U W q p (drops d).0 d e (drops d).1 x)
+
   pub promised : Proper G → 0 < G.grammar.R → (capacity : ℕ) (T U : Table) (q : Reply) → Replies G capacity T q U → Promised G capacity T q U
   promised p l capacity T U q d = record {
     eight = eight capacity d;
@@ -75,4 +85,14 @@ module _ (G : Setting) where
     over_true_rows = λ tr. reply_stands G capacity p l tr d;
     counted = λ tr c. reply_counted G p l tr c d;
     emptied = λ e c. (reply_stands G capacity p l (none_false G.grammar G.text G.size T e) d).answers c;
+  }
+
+  pub numbered : (capacity : ℕ) (T U : Table) (q : Reply) → Replies G capacity T q U → Promised G capacity T q U → PromisedByNumber G capacity T q U
+  numbered capacity T U q d p = record {
+    eight = by_number q Uncovered p.eight;
+    nine = λ k. by_number q Unfit (p.nine k);
+    ten = λ k. by_number q TooDeep (p.ten k);
+    never_nine = λ tr e. (p.over_true_rows tr).never_unfit (of_number q.result Unfit e);
+    ten_if_deeper = λ tr c v g. by_number q TooDeep ((p.over_true_rows tr).too_deep c v g);
+    given = given capacity d;
   }

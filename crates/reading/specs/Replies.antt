@@ -15,6 +15,15 @@ number Uncovered = 8
 number Unfit = 9
 number TooDeep = 10
 
+-- the number of a result; 0 is an answer
+abbrev pub result_number : Result Answer Refusal → ℕ
+result_number (Ok x) = 0
+result_number (Err z) = number z
+
+-- the reply is a refusal with this number
+abbrev pub RefusedBy : ℕ → Reply → Type 0
+RefusedBy n q = result_number q.result ≡ n
+
 -- what is answered of what was read
 abbrev pub answer_of : Res → Result Answer Refusal
 answer_of (Ok v) = Ok (record { outcome = v.outcome; note = v.note; recoveries = v.recoveries })

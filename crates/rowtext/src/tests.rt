@@ -17,7 +17,7 @@ fn words_have_one_to_eight_digits(rt: HostRuntime) {
 #[test]
 fn spaces_part_words(rt: HostRuntime) -> Result<(), Fail> {
     let words = read_row(rt.alloc(), b"  1  a0 ")?.ok_or("no row")?;
-    assert_eq!(rt; words.as_slice(), &[1, 0xa0]);
+    assert_eq!(rt; words.as_slice(), [1, 0xa0].as_slice());
     assert!(rt; read_row(rt.alloc(), b"1\t2")?.is_none());
     Ok(())
 }

@@ -7,6 +7,12 @@ returns g c =
     record {
       law = e.law;
       counts = λ first cs ks r v. (e.law first cs ks r).exactly v refl;
+      replies = e.replies;
+      promised = e.promised;
+      numbered = e.numbered;
+      run = e.run;
+      known = e.known;
+      unchanged = e.unchanged;
       blank = e.blank;
       places = e.places;
       rules = e.rules;

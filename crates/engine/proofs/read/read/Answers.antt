@@ -5,7 +5,8 @@ use Rattle.reading.specs.Reads.{Setting, setting}
 use Rattle.reading.specs.declared.refusal.Refusal.TheVariants.{Uncovered}
 use Rattle.reading.specs.Replies.{Replies}
 use Rattle.engine.specs.Frames.{blank}
-use Rattle.engine.proofs.Settings.{sane, uncovered_as, covered_as, promised_of}
+use Rattle.reading.proofs.Promises.{numbered}
+use Rattle.engine.proofs.Settings.{sane, covers_as, uncovered_as, covered_as, promised_of}
 use Rattle.engine.proofs.read.read.Goals as goal
 
 pub returns-then-not-covers : goal.returns-then-not-covers
@@ -16,9 +17,12 @@ returns-then-not-covers g c =
     let T : Table = g.M.Memory.table c.args.memory.now in
     let told : Replies G room T (record { result = Err Uncovered; fresh = 0 }) T =
     uncovered_as G room T _ _ _ _ c.places.ensures c.capacity.ensures.is c.rules.ensures c.rules-2.ensures (c.covers.ensures.1 c.if-not-covers.true) in
+    let kept = promised_of row.words.now (row.counted, row.headed, row.formed, row.named, row.solid, row.ending) g.T.Text.fits (g.T.Text.elements c.args.text.now) (length c.args.frames.now) g.M.Memory.keeps _ _ room T _ _ told in
     record {
       replies = told;
-      promised = promised_of row.words.now (row.counted, row.headed, row.formed, row.named, row.solid, row.ending) g.T.Text.fits (g.T.Text.elements c.args.text.now) (length c.args.frames.now) g.M.Memory.keeps _ _ room T _ _ told;
+      promised = kept;
+      numbered = numbered G room T _ _ told kept;
+      unchanged = λ _. refl;
       blank = c.drop-guard.ensures;
       places = refl;
       rules = refl;
@@ -43,9 +47,13 @@ returns g c =
     let told : Replies G room T (record { result = c.answered.result; fresh = c.root-result.new.fresh }) (g.M.Memory.table c.root-result.new.memory) =
     covered_as G room T _ _ _ _ c.places.ensures c.capacity.ensures.is c.rules.ensures c.rules-2.ensures (c.covers.ensures.0 c.if-not-covers.false)
     c.root-result.result _ c.answered.result c.answered.ensures c.root-result.ensures.reads in
+    let kept = promised_of row.words.now (row.counted, row.headed, row.formed, row.named, row.solid, row.ending) g.T.Text.fits (g.T.Text.elements c.args.text.now) (length c.args.frames.now) g.M.Memory.keeps _ _ room T _ _ told in
+    let told_by = numbered G room T _ _ told kept in
     record {
       replies = told;
-      promised = promised_of row.words.now (row.counted, row.headed, row.formed, row.named, row.solid, row.ending) g.T.Text.fits (g.T.Text.elements c.args.text.now) (length c.args.frames.now) g.M.Memory.keeps _ _ room T _ _ told;
+      promised = kept;
+      numbered = told_by;
+      unchanged = λ e. absurd (told_by.eight.0 e (covers_as G room _ _ _ _ c.places.ensures c.capacity.ensures.is c.rules.ensures c.rules-2.ensures (c.covers.ensures.0 c.if-not-covers.false)));
       blank = c.drop-guard-2.ensures ∙ ap (λ (n : ℕ). replicate n blank) same;
       places = c.root-result.ensures.places;
       rules = c.root-result.ensures.rules;
