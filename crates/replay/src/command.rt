@@ -29,16 +29,12 @@ pub enum Command<'a> {
 /// The call that a command names.
 fn call_of<'a>(command: &[u8], fields: &'a [u8]) -> Option<Call<'a>> {
     let alone = next_field(fields).is_none();
-    if command == b"open" && alone {
-        Some(Call::Open)
-    } else if command == b"clear" && alone {
-        Some(Call::Clear)
-    } else if command == b"change" {
-        Some(Call::Change(fields))
-    } else if command == b"parse" {
-        Some(Call::Parse(only_number(fields)?))
-    } else {
-        None
+    match command {
+        b"open" if alone => Some(Call::Open),
+        b"clear" if alone => Some(Call::Clear),
+        b"change" => Some(Call::Change(fields)),
+        b"parse" => Some(Call::Parse(only_number(fields)?)),
+        _ => None,
     }
 }
 

@@ -109,7 +109,7 @@ fn lay_grammar(heap: Global, fields: &[u8]) -> Result<Laid, Wrong> {
     };
     let verdict = judge(words.as_slice());
     match verdict {
-        Verdict::Accepted(_) => Ok(accepted(Said::Grammar(verdict), Part::Grammar(words))),
+        Verdict::Accepted { .. } => Ok(accepted(Said::Grammar(verdict), Part::Grammar(words))),
         Verdict::Refused(_) => Ok(refused(Said::Grammar(verdict))),
     }
 }
@@ -141,18 +141,18 @@ fn lay_memory(heap: Global, fields: &[u8]) -> Result<Laid, Wrong> {
     let Some((kind, rest)) = next_field(fields) else {
         return Err(Wrong::NotUnderstood);
     };
-    if kind == b"whole" {
-        return lay_whole(heap, rest);
+    match kind {
+        b"whole" => lay_whole(heap, rest),
+        b"ring" if next_field(rest).is_none() => {
+            let ring = Ring::new();
+            let said = Said::Memory {
+                places: ring.places(),
+                rules: ring.rules(),
+            };
+            Ok(accepted(said, Part::Memory(StoredMemory::Ring)))
+        }
+        _ => Err(Wrong::NotUnderstood),
     }
-    if kind != b"ring" || next_field(rest).is_some() {
-        return Err(Wrong::NotUnderstood);
-    }
-    let ring = Ring::new();
-    let said = Said::Memory {
-        places: ring.places(),
-        rules: ring.rules(),
-    };
-    Ok(accepted(said, Part::Memory(StoredMemory::Ring)))
 }
 
 /// A buffer beyond the most elements is refused whatever its size, so one place beyond is enough to ask.
@@ -197,17 +197,12 @@ fn lay_fixed(heap: Global, fields: &[u8]) -> Result<Laid, Wrong> {
 
 /// Lays out a part by its command.
 pub fn lay(heap: Global, command: &[u8], fields: &[u8]) -> Result<Laid, Wrong> {
-    if command == b"grammar" {
-        lay_grammar(heap, fields)
-    } else if command == b"memory" {
-        lay_memory(heap, fields)
-    } else if command == b"bytes" {
-        lay_buffer::<u8>(heap, fields)
-    } else if command == b"log" {
-        lay_buffer::<u32>(heap, fields)
-    } else if command == b"fixed" {
-        lay_fixed(heap, fields)
-    } else {
-        Err(Wrong::NotUnderstood)
+    match command {
+        b"grammar" => lay_grammar(heap, fields),
+        b"memory" => lay_memory(heap, fields),
+        b"bytes" => lay_buffer::<u8>(heap, fields),
+        b"log" => lay_buffer::<u32>(heap, fields),
+        b"fixed" => lay_fixed(heap, fields),
+        _ => Err(Wrong::NotUnderstood),
     }
 }

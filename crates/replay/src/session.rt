@@ -72,7 +72,7 @@ fn parsed<T: Text, M: Memory>(
     memory: &mut M,
     frames: usize,
 ) -> Result<Said, Wrong> {
-    let count = match most_frames(text.size(), grammar.counts().expressions) {
+    let count = match most_frames(text.size(), grammar.expressions()) {
         Some(most) => frames.min(most),
         None => frames,
     };
