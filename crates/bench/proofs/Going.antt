@@ -13,7 +13,7 @@ use Rattle.memo.specs.Tables.{Table, Empty, Shifts}
 use Rattle.reading.specs.declared.reply.Reply.{Reply}
 use Rattle.reading.specs.Replies.{Replies, uncovered, covered}
 use Rattle.reading.specs.Runs.{Bounds, parse_of}
-use Rattle.bench.specs.Runs.{State, settled, slip_out, Change, Changeable, Run, opened, changed, change_refused, shifted, parsed, parse_uncovered, cleared}
+use Rattle.bench.specs.Runs.{State, settled, slip_out, Change, Changeable, Run, changed, shifted, parsed, parse_uncovered, cleared}
 use Rattle.bench.specs.Calls.{bounds, Runs, GoesOn, RunsKnowing, GoesOnKnowing, EndsKnown, StaysKnown, Learns, learns, learns_nothing, ParsesOn, Obeys}
 use Rattle.bench.proofs.Law.{stays, law}
 

@@ -1,5 +1,5 @@
 -- The law holds: what is so of rows and known rule-places stays so over a run, and gives the answer.
-use Rattle.std.proofs.Common.{◌≡◌, ℕ, ◌+◌, ◌-◌, ◌*◌, ◌<◌, ◌≤◌, Bool, true, List, [], ◌∷◌, length, Ok, Err, sym, refl, ap, ◌∙◌, subst, inl, inr, mul-le-mul_right, arith}
+use Rattle.std.proofs.Common.{◌≡◌, ℕ, ◌+◌, ◌-◌, ◌*◌, ◌<◌, ◌≤◌, Bool, true, List, length, Ok, Err, sym, refl, ap, ◌∙◌, subst, inl, inr, mul-le-mul_right, arith}
 use native.Mathlib.Decide.{dec_le}
 use Rattle.grammar.specs.declared.expr.Mode.TheVariants.{On}
 use Rattle.grammar.specs.Words.{meaning}
@@ -17,10 +17,10 @@ use Rattle.peg.proofs.Totality.{total, list_ends}
 use Rattle.peg.proofs.Counting.{counting}
 use Rattle.peg.proofs.Completing.{completes_among}
 use Rattle.memo.specs.Tables.{Table, Empty, Shifts}
-use Rattle.reading.specs.declared.refusal.Refusal.TheVariants.{Uncovered, TooDeep}
+use Rattle.reading.specs.declared.refusal.Refusal.TheVariants.{TooDeep}
 use Rattle.reading.specs.declared.reply.Reply.{Reply}
 use Rattle.reading.specs.Reads.{Setting, Res, rule, most_fresh}
-use Rattle.reading.specs.Replies.{answer_of, Replies, uncovered, covered}
+use Rattle.reading.specs.Replies.{Replies, uncovered, covered}
 use Rattle.reading.specs.Truth.{Proper, ComesTo, RuleComes, rule_gives, rule_halts, ReplyStands}
 use Rattle.reading.specs.Counts.{ReplyCounted}
 use Rattle.reading.specs.Runs.{Bounds, parse_of, Covering, Tracks}
@@ -29,7 +29,7 @@ use Rattle.reading.proofs.Truth.{reply_stands, proper, some_rule, none_false}
 use Rattle.reading.proofs.Counts.{reply_counted}
 use Rattle.reading.proofs.Steps.{steps}
 use Rattle.bench.specs.Runs.{State, settled, slip_out, Change, made, Changeable, Run, opened, changed, change_refused, shifted, parsed, parse_uncovered, cleared}
-use Rattle.bench.specs.Law.{Lawful, Law}
+use Rattle.bench.specs.Law.{Law}
 
 -- at the root all frames are left
 all_left : {E : Type 0} (fits : ℕ → ℕ → E → Bool) (b : Bounds) (ws : List ℕ) (xs : List E) (frames : ℕ) (s : Res) (zs : List RulePlace)

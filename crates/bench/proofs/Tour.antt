@@ -1,5 +1,5 @@
 -- The runs, step by step.
-use Rattle.std.proofs.Common.{◌≡◌, ℕ, zero, suc, ◌≤◌, Bool, true, ◌⊎◌, List, [], ◌∷◌, length, Some, None, Ok, Err, refl, inl, inr, arith}
+use Rattle.std.proofs.Common.{◌≡◌, ℕ, zero, suc, ◌≤◌, Bool, true, ◌⊎◌, List, [], ◌∷◌, Some, None, Ok, Err, refl, inl, inr, arith}
 use Rattle.grammar.specs.declared.expr.Mode.{Mode}
 use Rattle.grammar.specs.declared.expr.Mode.TheVariants.{On, Off}
 use Rattle.grammar.specs.Words.{meaning}
@@ -11,15 +11,14 @@ use Rattle.peg.specs.Rules.{empty_matches, as_its_body}
 use Rattle.peg.specs.Halting.{too_deep}
 use Rattle.peg.specs.Settling.{Remains, kept, moves}
 use Rattle.memo.specs.declared.row.Row.{Row}
-use Rattle.memo.specs.Tables.{Table, Same, Puts, Shifts, Kept, Moved}
+use Rattle.memo.specs.Tables.{Same, Puts, Shifts}
 use Rattle.reading.specs.declared.refusal.Refusal.TheVariants.{Uncovered, TooDeep}
-use Rattle.reading.specs.declared.reply.Reply.{Reply}
-use Rattle.reading.specs.Reads.{Store, store, row_of, Reads}
+use Rattle.reading.specs.Reads.{store, row_of, Reads}
 use Rattle.reading.specs.Replies.{answer_of, Replies, uncovered, covered}
 use Rattle.reading.specs.Truth.{rule_gives, rule_halts}
 use Rattle.reading.specs.Runs.{Bounds, parse_of}
 use Rattle.reading.proofs.Once.{none}
-use Rattle.bench.specs.Runs.{State, settled, slip_out, Change, Run, opened, changed, change_refused, shifted, parsed, parse_uncovered, cleared}
+use Rattle.bench.specs.Runs.{settled, slip_out, Run, opened, changed, change_refused, shifted, parsed, parse_uncovered, cleared}
 use Rattle.bench.specs.Calls.{bounds}
 use Rattle.bench.specs.Tour.{smallest_row, no_rows, one_row, root, letter_put_in, Toured}
 use Rattle.bench.specs.Called.{TouredByCalls}

@@ -15,7 +15,7 @@ use Rattle.reading.specs.Reads.{Res}
 use Rattle.reading.specs.Replies.{Replies}
 use Rattle.reading.specs.Truth.{RuleComes, ReplyStands}
 use Rattle.reading.specs.Runs.{Bounds, parse_of, Covering}
-use Rattle.bench.specs.Runs.{State, settled, Change, made, Run}
+use Rattle.bench.specs.Runs.{settled, Change, made, Run}
 
 -- after a run, a parse with so many frames replied q and left the rows U
 pub record Lawful {E : Type 0} (fits : ℕ → ℕ → E → Bool) (b : Bounds) (ws : List ℕ) (first : List E) (cs : List (Change E)) (xs : List E) (ks : List RulePlace) (frames : ℕ) (q : Reply) (U : Table) : Type 0 where

@@ -1,5 +1,5 @@
 -- Runs with every kind of step, over a memory of either kind: so the law is not about nothing.
-use Rattle.std.specs.Prelude.{ℕ, zero, suc, Bool, true, false, List, [], ◌∷◌, Some, None}
+use Rattle.std.specs.Prelude.{ℕ, zero, suc, Bool, List, [], ◌∷◌, Some, None}
 use Rattle.grammar.specs.declared.expr.Mode.TheVariants.{On, Off}
 use Rattle.text.specs.Meaning.{byte_in}
 use Rattle.peg.specs.declared.results.Outcome.TheVariants.{Match}
@@ -7,7 +7,7 @@ use Rattle.peg.specs.Readings.{read_alone}
 use Rattle.peg.specs.Results.{RulePlace}
 use Rattle.memo.specs.Tables.{Table}
 use Rattle.reading.specs.Reads.{row_of}
-use Rattle.bench.specs.Runs.{State, settled, slip_out, Change, Run}
+use Rattle.bench.specs.Runs.{settled, slip_out, Change, Run}
 use Rattle.bench.specs.Calls.{bounds}
 
 -- a grammar with one rule, whose body is the empty expression

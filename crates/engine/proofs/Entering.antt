@@ -1,5 +1,5 @@
 -- An expression is entered: it gives at once, or is opened with its first part; each kind by one rule of `Reads`.
-use Rattle.std.proofs.Common.{◌≡◌, ℕ, zero, suc, ◌+◌, ◌<◌, ◌≤◌, Bool, true, false, Some, None, Ok, Err, Option, sym, refl, ap, ◌∙◌, subst, subst₂, arith}
+use Rattle.std.proofs.Common.{◌≡◌, ℕ, ◌+◌, ◌<◌, ◌≤◌, Bool, true, false, Some, None, Ok, Err, sym, refl, subst, subst₂, arith}
 use mathlib.Core.Logic.{∥∥₁_map}
 use Rattle.grammar.specs.declared.expr.Mode.{Mode}
 use Rattle.grammar.specs.declared.expr.Mode.TheVariants.{On, Off}
@@ -11,8 +11,6 @@ use Rattle.peg.specs.declared.results.Outcome.TheVariants.{Match, Failure}
 use Rattle.peg.specs.declared.results.Reading.{Reading}
 use Rattle.peg.specs.Rules.{unmarked}
 use Rattle.peg.specs.Readings.{read_alone, read_deeper, read_predicate, read_recovery}
-use Rattle.memo.specs.declared.row.Row.{Row}
-use Rattle.memo.specs.Rows.{told_from}
 use Rattle.reading.specs.declared.refusal.Refusal.{Refusal}
 use Rattle.engine.specs.declared.frame.Frame.{Frame}
 use Rattle.engine.specs.Frames.{mode_by, mode_number, fresh_frame}

@@ -1,6 +1,6 @@
 -- What a row found comes to: the test is the definition.
-use Rattle.std.proofs.Common.{◌≡◌, ℕ, ◌+◌, ◌<◌, ◌≤◌, Bool, true, false, cond, not, ◌&&◌, ◌||◌, eqb, leb, ◌⊎◌, Some, None, Ok, Err, Option, sym, refl, ap, ◌∙◌, subst, inl, inr, arith}
-use Rattle.std.proofs.lemmas.Bool.{and_parts, and_from, and_cases, leb-true, leb-false, le-leb, both_ways, cases_Bool, eqb-true, eq-eqb}
+use Rattle.std.proofs.Common.{◌≡◌, ℕ, ◌+◌, ◌<◌, ◌≤◌, Bool, true, false, cond, not, ◌&&◌, ◌||◌, leb, ◌⊎◌, Some, None, Ok, Err, Option, sym, refl, ap, ◌∙◌, subst, inl, inr, arith}
+use Rattle.std.proofs.lemmas.Bool.{and_parts, and_from, leb-true, le-leb, both_ways, cases_Bool, eqb-true, eq-eqb}
 use Rattle.grammar.specs.declared.expr.Mode.{Mode}
 use Rattle.grammar.specs.Marks.{NullableRule}
 use Rattle.grammar.specs.Questions.{Tells}
@@ -9,8 +9,7 @@ use Rattle.peg.specs.declared.results.Outcome.TheVariants.{Match, Failure}
 use Rattle.peg.specs.declared.results.Note.{Note}
 use Rattle.peg.specs.declared.results.Reading.{Reading}
 use Rattle.memo.specs.declared.row.Row.{Row}
-use Rattle.memo.specs.Rows.{outcome_from, told_from}
-use Rattle.reading.specs.declared.refusal.Refusal.{Refusal}
+use Rattle.memo.specs.Rows.{told_from}
 use Rattle.reading.specs.declared.refusal.Refusal.TheVariants.{Unfit, TooDeep}
 use Rattle.grammar.specs.Words.{Peg}
 use Rattle.reading.specs.Reads.{Setting, Store, rule, OutcomeWithin, NoteWithin, Fits, Reads}

@@ -1,15 +1,14 @@
 -- A frame is handed what its part gave: each kind goes on as its relation says.
-use Rattle.std.proofs.Common.{◌≡◌, ℕ, zero, suc, ◌+◌, ◌-◌, ◌<◌, ◌≤◌, min, max, Bool, true, false, cond, eqb, ◌≢◌, ◌⊎◌, Some, None, Ok, Err, Option, sym, refl, ap, ◌∙◌, subst, ap₂, subst₂, inl, inr, arith}
+use Rattle.std.proofs.Common.{◌≡◌, ℕ, zero, suc, ◌+◌, ◌<◌, ◌≤◌, min, max, Bool, true, false, cond, eqb, Some, None, Ok, Err, Option, sym, refl, ap, ◌∙◌, subst, subst₂, arith}
 use mathlib.Core.HLevel.{⊥_prop}
 use mathlib.Core.Logic.{∥∥₁_map, ∥∥₁_map₂, ∥∥₁_elim}
 use Prim.Native.Nat.{compare, Ordering}
-use Rattle.std.proofs.lemmas.Bool.{cases_eq}
 use Rattle.grammar.specs.declared.expr.Mode.{Mode}
-use Rattle.grammar.specs.declared.expr.Mode.TheVariants.{On, Off}
+use Rattle.grammar.specs.declared.expr.Mode.TheVariants.{On}
 use Rattle.grammar.specs.declared.expr.Expr.{Expr}
-use Rattle.grammar.specs.declared.expr.Expr.TheVariants.{Empty, Terminal, Call, Sequence, Choice, Repetition, Predicate, Throw}
+use Rattle.grammar.specs.declared.expr.Expr.TheVariants.{Call, Sequence, Choice, Repetition, Predicate, Throw}
 use Rattle.grammar.specs.Words.{Peg}
-use Rattle.grammar.specs.Form.{recovers_lem, Nullable, Refers, by_repetition, by_predicate, by_call, by_sequence, by_first, by_second, by_recovery}
+use Rattle.grammar.specs.Form.{Nullable, Refers, by_repetition, by_predicate, by_call, by_sequence, by_first, by_second, by_recovery}
 use Rattle.peg.specs.declared.results.Outcome.{Outcome}
 use Rattle.peg.specs.declared.results.Outcome.TheVariants.{Match, Failure}
 use Rattle.peg.specs.declared.results.Note.{Note}
@@ -17,14 +16,14 @@ use Rattle.peg.specs.declared.results.Recoveries.{Recoveries}
 use Rattle.peg.specs.declared.results.Reading.{Reading}
 use Rattle.peg.specs.Rules.{join, farther, caught, denied, denied_note, unmarked}
 use Rattle.peg.specs.Summaries.{added}
-use Rattle.peg.specs.Readings.{no_recoveries, matched_only, read_deeper, read_sequence, read_other, read_end, read_round, read_predicate, read_recovery}
+use Rattle.peg.specs.Readings.{matched_only, read_deeper, read_sequence, read_other, read_end, read_round, read_predicate, read_recovery}
 use Rattle.peg.proofs.Readings.{readings}
 use Rattle.memo.specs.declared.row.Row.{Row}
 use Rattle.memo.specs.Tables.{Puts}
 use Rattle.engine.specs.declared.frame.Frame.{Frame}
 use Rattle.engine.specs.Frames.{mode_by, note_by, noted_number, noted_at, noted_marks, so_far, going_on}
 use Rattle.reading.specs.Reads.{Setting, Store, Res, expression, each, row_of, place_of, most_fresh, NoteWithin, Stores, Reads}
-use Rattle.engine.specs.Machine.{Sane, joined, rounds, read_unmatched, finish, Called, First, One, Round, Last, ResumeAs, Resume, Ahead, Sound, Awaits, AwaitsAs, digit_as, Continued, Awaiting, Handed, Shallow, Fine}
+use Rattle.engine.specs.Machine.{Sane, joined, rounds, read_unmatched, finish, Called, First, One, Round, Last, ResumeAs, Resume, Ahead, Sound, AwaitsAs, digit_as, Continued, Awaiting, Handed, Shallow, Fine}
 
 clash : {A : Type 0} {o : Outcome} {j l p : ℕ} → o ≡ Match j → o ≡ Failure l p → A
 clash p q = let z : ◌≡◌ {A = ℕ} 0 1 = cc in absurd (omega arith)

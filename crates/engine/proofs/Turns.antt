@@ -1,5 +1,5 @@
 -- Each turn of the engine keeps what has to be kept, and its measure falls. No kind of expression is looked at here.
-use Rattle.std.proofs.Common.{◌≡◌, ℕ, zero, suc, ◌+◌, ◌-◌, ◌*◌, ◌^◌, ◌<◌, ◌≤◌, max, Bool, ◌≢◌, List, [], ◌∷◌, length, get_or, set, Ok, Err, Result, sym, refl, ap, ◌∙◌, subst, ap₂, subst₂, zero-le, mul-le-mul_right, add-mul, one-mul, add-one, arith, get_or-set_other, get_or-set_same}
+use Rattle.std.proofs.Common.{◌≡◌, ℕ, zero, suc, ◌+◌, ◌-◌, ◌*◌, ◌^◌, ◌<◌, ◌≤◌, Bool, ◌≢◌, List, [], ◌∷◌, length, get_or, set, Ok, Err, Result, sym, refl, ap, ◌∙◌, subst, ap₂, subst₂, zero-le, mul-le-mul_right, add-mul, one-mul, add-one, arith, get_or-set_other, get_or-set_same}
 use Rattle.grammar.specs.Words.{Peg}
 use native.Mathlib.Nat.{pow-succ', one-le-pow}
 use Rattle.grammar.specs.declared.expr.Mode.{Mode}

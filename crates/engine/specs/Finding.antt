@@ -1,5 +1,5 @@
 -- What is computed of a row that was found.
-use Rattle.std.specs.Prelude.{◌≡◌, ℕ, ◌+◌, ◌<◌, ◌≤◌, Bool, true, false, cond, not, ◌&&◌, ◌||◌, Some, None, Ok, Err, Option, Result, ◌==◌, nat_le}
+use Rattle.std.specs.Prelude.{ℕ, ◌+◌, ◌<◌, ◌≤◌, Bool, true, false, ◌&&◌, Some, None, Ok, Err, Option, Result, ◌==◌, nat_le}
 use Rattle.grammar.specs.declared.expr.Mode.{Mode}
 use Rattle.peg.specs.declared.results.Outcome.{Outcome}
 use Rattle.peg.specs.declared.results.Outcome.TheVariants.{Match, Failure}
@@ -8,7 +8,7 @@ use Rattle.peg.specs.declared.results.Reading.{Reading}
 use Rattle.memo.specs.declared.row.Row.{Row}
 use Rattle.memo.specs.Rows.{told_from}
 use Rattle.reading.specs.declared.refusal.Refusal.{Refusal}
-use Rattle.reading.specs.declared.refusal.Refusal.TheVariants.{Uncovered, Unfit, TooDeep}
+use Rattle.reading.specs.declared.refusal.Refusal.TheVariants.{Unfit, TooDeep}
 use Rattle.reading.specs.Reads.{Setting, Fits}
 
 abbrev pub outcome_fits : ℕ → ℕ → Outcome → Bool

@@ -1,5 +1,5 @@
 -- What the engine's records mean: how an open frame goes on with what its part gave, and what is kept from turn to turn.
-use Rattle.std.specs.Prelude.{◌≡◌, ℕ, zero, suc, ◌+◌, ◌-◌, ◌*◌, ◌^◌, ◌<◌, ◌≤◌, max, Bool, true, false, List, [], ◌∷◌, length, get_or, Some, None, Ok, Err, Option, Result}
+use Rattle.std.specs.Prelude.{◌≡◌, ℕ, zero, suc, ◌+◌, ◌-◌, ◌*◌, ◌^◌, ◌<◌, ◌≤◌, max, true, false, List, [], ◌∷◌, length, Some, Ok, Err, Result}
 use Rattle.grammar.specs.declared.expr.Mode.{Mode}
 use Rattle.grammar.specs.declared.expr.Mode.TheVariants.{On, Off}
 use Rattle.grammar.specs.declared.expr.Expr.{Expr}
@@ -8,7 +8,6 @@ use Rattle.grammar.specs.Words.{Peg}
 use Rattle.grammar.specs.Form.{recovers_lem, Nullable, Whole, Solid}
 use Rattle.peg.specs.declared.results.Outcome.{Outcome}
 use Rattle.peg.specs.declared.results.Outcome.TheVariants.{Match, Failure}
-use Rattle.peg.specs.declared.results.Note.{Note}
 use Rattle.peg.specs.declared.results.Reading.{Reading}
 use Rattle.peg.specs.Rules.{join, caught}
 use Rattle.peg.specs.Summaries.{added}
@@ -19,8 +18,8 @@ use Rattle.engine.specs.declared.step.Move.{Move}
 use Rattle.engine.specs.declared.step.Move.TheVariants.{Open, Give}
 use Rattle.engine.specs.declared.step.Control.{Control}
 use Rattle.engine.specs.declared.step.Control.TheVariants.{Evaluate, Return}
-use Rattle.engine.specs.Frames.{mode_by, so_far, stack}
-use Rattle.reading.specs.Reads.{Setting, Store, Res, Asked, expression, rule, each, row_of, place_of, NoteWithin, Stores, Reads}
+use Rattle.engine.specs.Frames.{mode_by, so_far}
+use Rattle.reading.specs.Reads.{Setting, Store, Res, expression, each, row_of, place_of, NoteWithin, Stores, Reads}
 
 -- what the code asks of a setting
 pub record Sane (G : Setting) : Type 0 where

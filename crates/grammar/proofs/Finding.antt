@@ -1,5 +1,5 @@
 -- Finding the lowest expression at fault, and the masks of rules that may match nothing.
-use Rattle.std.proofs.Common.{◌≡◌, ℕ, ◌+◌, ◌-◌, ◌^◌, ◌<◌, ◌≤◌, Bool, true, false, not, ◌||◌, ◌⊎◌, List, length, sym, refl, ap, ◌∙◌, subst, inl, inr, arith}
+use Rattle.std.proofs.Common.{◌≡◌, ℕ, ◌+◌, ◌^◌, ◌<◌, ◌≤◌, Bool, true, false, not, ◌||◌, List, sym, refl, ap, ◌∙◌, subst, inl, inr, arith}
 use mathlib.Core.Logic.{∥∥₁_map, ∥∥₁_elim}
 use mathlib.Core.HLevel.{⊥_prop}
 use lib.Bits.{bit_or}
@@ -11,8 +11,8 @@ use Rattle.grammar.specs.declared.expr.Expr.TheVariants.{Empty, Terminal, Call, 
 use Rattle.grammar.specs.declared.marks.Fact.{Fact}
 use Rattle.grammar.specs.declared.marks.Fact.TheVariants.{MayMatchNothing, WalksEnd}
 use Rattle.grammar.specs.Words.{bit, Peg, meaning}
-use Rattle.grammar.specs.Form.{Nullable, Endless, Whole, Refers}
-use Rattle.grammar.specs.Questions.{WordAtFault, word_of, Lowest, Never, Tells, HollowAt, EndlessAt}
+use Rattle.grammar.specs.Form.{Endless, Whole, Refers}
+use Rattle.grammar.specs.Questions.{WordAtFault, word_of, Lowest, Never, Tells, HollowAt}
 use Rattle.grammar.specs.Marks.{Marks, Decided, Right, Mask, FaultAt, hollow, faulty, NullableRule}
 use Rattle.grammar.proofs.Fields.{bit-bit_or, bit_same, bit_other, bit_high}
 

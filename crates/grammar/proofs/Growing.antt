@@ -1,12 +1,12 @@
 -- Marks that grow: one by one, in a pass, and over passes.
-use Rattle.std.proofs.Common.{◌≡◌, ℕ, ◌+◌, ◌<◌, Bool, true, false, ◌||◌, ◌⊎◌, List, sym, refl, ap, ◌∙◌, subst, inl, inr, arith}
+use Rattle.std.proofs.Common.{◌≡◌, ℕ, ◌+◌, ◌<◌, Bool, true, false, ◌||◌, List, sym, refl, ◌∙◌, subst, inl, inr, arith}
 use Rattle.std.proofs.lemmas.Bool.{both_ways, cases_eq}
 use Rattle.grammar.specs.declared.expr.Mode.{Mode}
 use Rattle.grammar.specs.declared.marks.Fact.{Fact}
 use Rattle.grammar.specs.declared.marks.Fact.TheVariants.{MayMatchNothing, WalksEnd}
 use Rattle.grammar.specs.Words.{Peg}
 use Rattle.grammar.specs.Form.{Whole}
-use Rattle.grammar.specs.Marks.{Marks, mark, Marked, due, Backed, Blank, Ready, Same, other, missing, Grew, Tried, Holds}
+use Rattle.grammar.specs.Marks.{Marks, mark, Marked, due, Backed, Blank, Ready, other, missing, Grew, Tried, Holds}
 use Rattle.grammar.proofs.Settling.{due_holds, missing_lt}
 
 not_other : (f : Fact) → other f ≡ f → ⊥

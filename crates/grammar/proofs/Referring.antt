@@ -1,11 +1,10 @@
 -- Where every word names only what is there, all that the grammar refers to exists.
-use Rattle.std.proofs.Common.{◌≡◌, ℕ, zero, suc, ◌+◌, ◌-◌, ◌*◌, ◌<◌, ◌≤◌, Bool, true, false, cond, ◌&&◌, eqb, ltb, leb, ◌⊎◌, List, length, get_or, Some, None, Option, sym, refl, ap, ◌∙◌, subst, inl, inr, arith}
-use Rattle.std.proofs.lemmas.Bool.{both_ways, cases_Bool, and_parts, ltb-true, leb-true, le-leb, lt-leb}
-use Rattle.grammar.specs.declared.expr.Expr.{Expr}
-use Rattle.grammar.specs.declared.expr.Expr.TheVariants.{Empty, Terminal, Call, Sequence, Choice, Repetition, Predicate, Throw}
+use Rattle.std.proofs.Common.{◌≡◌, ℕ, zero, suc, ◌+◌, ◌-◌, ◌<◌, ◌≤◌, true, ◌&&◌, ltb, leb, List, length, get_or, Some, sym, refl, ap, ◌∙◌, inl, inr, arith}
+use Rattle.std.proofs.lemmas.Bool.{cases_Bool, and_parts, ltb-true, leb-true, le-leb, lt-leb}
+use Rattle.grammar.specs.declared.expr.Expr.TheVariants.{Terminal, Throw}
 use Rattle.grammar.specs.declared.part.Part.{Part}
-use Rattle.grammar.specs.declared.part.Part.TheVariants.{Header, Rule, Label, Set, Expression}
-use Rattle.grammar.specs.Words.{kind, field_a, field_b, field_c, of_kind, recovery_by, recovery_of, Peg, meaning}
+use Rattle.grammar.specs.declared.part.Part.TheVariants.{Rule, Label, Expression}
+use Rattle.grammar.specs.Words.{kind, field_a, field_b, field_c, of_kind, recovery_by, Peg, meaning}
 use Rattle.grammar.specs.Form.{Refers, Whole, Solid, Ending}
 use Rattle.grammar.specs.Questions.{part_of, most_labels, highest_mark, formed_kind, formed_as, formed, named_kind, named_recovery, named_as, named, word_of, ReferencesPass, Accepted}
 

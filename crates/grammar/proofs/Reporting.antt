@@ -1,5 +1,5 @@
 -- The check has exactly one report, and each layer's answer is a part of it.
-use Rattle.std.proofs.Common.{◌≡◌, ℕ, ◌*◌, ◌<◌, ◌≤◌, true, false, ◌⊎◌, ◌↔◌, List, length, replicate, Ok, Err, Result, sym, refl, ap, ◌∙◌, subst, inl, inr, arith, MatchResult}
+use Rattle.std.proofs.Common.{◌≡◌, ℕ, ◌*◌, ◌≤◌, true, false, ◌↔◌, List, length, replicate, Ok, Err, Result, sym, refl, ap, ◌∙◌, subst, inl, inr, arith, MatchResult}
 use Rattle.grammar.specs.declared.expr.Mode.TheVariants.{On, Off}
 use Rattle.std.proofs.lemmas.Bool.{both_ways, cases_order}
 use Rattle.grammar.specs.declared.fault.Layer.{Layer}
@@ -12,7 +12,7 @@ use Rattle.grammar.specs.declared.fault.ReferenceFault.TheVariants.{Words as ofW
 use Rattle.grammar.specs.declared.fault.WordFault.TheVariants.{Count, Header, Word}
 use Rattle.grammar.specs.Words.{meaning}
 use Rattle.grammar.specs.Faults.{Report, right, wrong, work_report, form_report}
-use Rattle.grammar.specs.Questions.{Asks, AsksWords, AsksReferences, AsksWork, AsksForm, Never, Lowest, NoMore, Miscounted, Misheaded, Misformed, Misnamed, ShortOfWork, Hollow, Unending, Reported, Accepted, WorkPasses, WorkFails, FormPasses, FormFails, fault_left}
+use Rattle.grammar.specs.Questions.{Asks, AsksForm, Lowest, NoMore, Reported, Accepted, WorkPasses, WorkFails, FormPasses, FormFails, fault_left}
 use Rattle.grammar.specs.Marks.{Mask, Judged}
 
 -- there is one lowest word

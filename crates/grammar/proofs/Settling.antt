@@ -1,5 +1,5 @@
 -- Marks that are settled say just which expressions may match nothing, and from which no walk goes on for ever.
-use Rattle.std.proofs.Common.{◌≡◌, ℕ, zero, suc, ◌+◌, ◌<◌, ◌≤◌, Bool, true, false, not, ◌&&◌, ◌||◌, ◌⊎◌, Some, None, Option, sym, refl, ap, ◌∙◌, subst, inl, inr, arith}
+use Rattle.std.proofs.Common.{◌≡◌, ℕ, zero, suc, ◌<◌, ◌≤◌, Bool, true, false, not, Some, None, Option, sym, refl, ap, ◌∙◌, subst, inl, inr, arith}
 use Rattle.std.proofs.lemmas.Bool.{and_parts, and_from, and_cases, or_cases, or_parts, or_left, or_right, not-true, not-false, both_ways, cases_Bool, cases_eq}
 use Rattle.grammar.specs.declared.expr.Mode.{Mode}
 use Rattle.grammar.specs.declared.expr.Mode.TheVariants.{On, Off}
@@ -11,7 +11,7 @@ use Rattle.grammar.specs.Words.{Peg}
 use Rattle.grammar.specs.Form.{recovers_lem, Nullable, Leads, Endless, Refers, Whole}
 use Rattle.grammar.specs.Form.{by_empty, by_repetition, by_predicate, by_call, by_sequence, by_first, by_second, by_recovery}
 use Rattle.grammar.specs.Form.{to_body, to_first, past_first, to_one, to_other, to_part, to_inside, to_recovery}
-use Rattle.grammar.specs.Marks.{Marks, may, may_recovery, ends, ends_recovery, due, Halting, halts, Holds, Backed, Complete, Right, Ready, Decided, Blank, Same, other, unset, missing}
+use Rattle.grammar.specs.Marks.{Marks, may, may_recovery, ends, ends_recovery, due, Halting, halts, Holds, Backed, Complete, Right, Ready, Decided, Same, other, unset, missing}
 
 recovers_on : (g : Peg) (l e : ℕ) (m : Mode) → recovers_lem g l m ≡ Some e → g.recovery l ≡ Some e
 recovers_on g l e On p = p

@@ -1,11 +1,11 @@
 -- The smallest grammar is accepted.
-use Rattle.std.proofs.Common.{◌≡◌, ℕ, zero, suc, ◌<◌, ◌≤◌, true, false, List, [], ◌∷◌, sym, refl, ◌∙◌, subst, arith}
+use Rattle.std.proofs.Common.{◌≡◌, ℕ, zero, suc, ◌<◌, List, [], ◌∷◌, sym, refl, ◌∙◌, subst, arith}
 use Rattle.std.proofs.lemmas.Bool.{both_ways}
 use Rattle.grammar.specs.declared.expr.Mode.{Mode}
 use Rattle.grammar.specs.declared.expr.Expr.{Expr}
 use Rattle.grammar.specs.declared.expr.Expr.TheVariants.{Empty, Repetition}
 use Rattle.grammar.specs.Words.{Peg, meaning}
-use Rattle.grammar.specs.Form.{Leads, Endless, by_empty}
+use Rattle.grammar.specs.Form.{Leads, by_empty}
 use Rattle.grammar.specs.Questions.{Never, Misformed, Misnamed, Hollow, Unending, Accepted}
 use Rattle.grammar.specs.Marks.{Mask}
 

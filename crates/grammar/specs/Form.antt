@@ -1,5 +1,5 @@
 -- Well-formed grammars: what may match nothing, leading parts, and walks that never end.
-use Rattle.std.specs.Prelude.{◌≡◌, ℕ, zero, suc, ◌<◌, Some, None, Option}
+use Rattle.std.specs.Prelude.{◌≡◌, ℕ, suc, ◌<◌, Some, None, Option}
 use Rattle.grammar.specs.declared.expr.Mode.{Mode}
 use Rattle.grammar.specs.declared.expr.Mode.TheVariants.{On, Off}
 use Rattle.grammar.specs.declared.expr.Expr.{Expr}

@@ -1,5 +1,5 @@
 -- What a reading's parts do to the rows held, put together: rows held afterwards, rows put, each once.
-use Rattle.std.proofs.Common.{◌≡◌, ℕ, ◌+◌, ◌<◌, ◌≤◌, Bool, true, false, cond, ◌⊎◌, ◌↔◌, List, [], ◌∷◌, ◌++◌, length, None, sym, refl, ◌∙◌, subst, inl, inr, arith, length-append}
+use Rattle.std.proofs.Common.{◌≡◌, ℕ, ◌<◌, ◌≤◌, Bool, true, false, cond, ◌⊎◌, ◌↔◌, List, [], ◌∷◌, ◌++◌, length, None, sym, refl, ◌∙◌, subst, inl, inr, arith, length-append}
 use Rattle.grammar.specs.declared.expr.Mode.{Mode}
 use Rattle.peg.specs.Members.{In, Distinct}
 use Rattle.peg.specs.Results.{RulePlace}

@@ -1,9 +1,8 @@
 -- Reading with a memory: the rules, with each rule-place looked up first, and its row put when it was evaluated.
-use Rattle.std.specs.Prelude.{◌≡◌, ℕ, zero, suc, ◌+◌, ◌-◌, ◌<◌, ◌≤◌, min, Bool, true, false, List, length, Some, None, Ok, Err, Option, Result}
+use Rattle.std.specs.Prelude.{◌≡◌, ℕ, suc, ◌+◌, ◌-◌, ◌<◌, ◌≤◌, min, Bool, true, false, List, length, Some, None, Ok, Err, Option, Result}
 use Rattle.text.specs.Meaning.{accepted}
 use Rattle.grammar.specs.declared.expr.Mode.{Mode}
 use Rattle.grammar.specs.declared.expr.Mode.TheVariants.{On, Off}
-use Rattle.grammar.specs.declared.expr.Expr.{Expr}
 use Rattle.grammar.specs.declared.expr.Expr.TheVariants.{Empty, Terminal, Call, Sequence, Choice, Repetition, Predicate, Throw}
 use Rattle.grammar.specs.Words.{Peg}
 use Rattle.grammar.specs.Form.{recovers_lem}
@@ -11,7 +10,6 @@ use Rattle.grammar.specs.Marks.{NullableRule}
 use Rattle.peg.specs.declared.results.Outcome.{Outcome}
 use Rattle.peg.specs.declared.results.Outcome.TheVariants.{Match, Failure}
 use Rattle.peg.specs.declared.results.Note.{Note}
-use Rattle.peg.specs.declared.results.Recoveries.{Recoveries}
 use Rattle.peg.specs.declared.results.Reading.{Reading}
 use Rattle.peg.specs.Rules.{Text, expected, unmarked, caught}
 use Rattle.peg.specs.Readings.{read_alone, read_deeper, read_sequence, read_other, read_end, read_round, read_predicate, read_recovery}

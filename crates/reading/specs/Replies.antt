@@ -1,7 +1,6 @@
 -- What a reading replies: the number of each refusal, question 8, and the answer with its count.
 use Rattle.std.specs.Prelude.{◌≡◌, ℕ, ◌<◌, ◌≤◌, Ok, Err, Result}
 use Rattle.grammar.specs.declared.expr.Mode.TheVariants.{On}
-use Rattle.peg.specs.declared.results.Reading.{Reading}
 use Rattle.memo.specs.Tables.{Table}
 use Rattle.reading.specs.declared.refusal.Refusal.{Refusal}
 use Rattle.reading.specs.declared.refusal.Refusal.TheVariants.{Uncovered, Unfit, TooDeep}

@@ -1,4 +1,3 @@
-use Rattle.std.proofs.Common.{refl}
 use Rattle.bench.specs.Runs.{opened}
 use Rattle.bench.proofs.calls.open.Goals as goal
 

@@ -1,6 +1,6 @@
-use Rattle.std.proofs.Common.{◌≡◌, ℕ, ◌+◌, ◌-◌, ◌<◌, ◌≤◌, sym, refl, ap, arith}
+use Rattle.std.proofs.Common.{◌≡◌, ◌+◌, ◌-◌, sym, refl, arith}
 use Rattle.grammar.specs.Words.{meaning}
-use Rattle.reading.specs.Reads.{setting, store, Reads}
+use Rattle.reading.specs.Reads.{setting, store}
 use Rattle.engine.proofs.Entering.{open_call, give_found, refuse_found, opened_as, part_as, given_as}
 use Rattle.engine.proofs.Finding.{found_reads, found_gives}
 use Rattle.engine.proofs.enter.enter_call.Goals as goal

@@ -1,4 +1,3 @@
-use Rattle.std.proofs.Common.{sym, refl}
 use Rattle.engine.proofs.Finding.{found_unfit, found_deep, found_stands}
 use Rattle.engine.proofs.find.found.Goals as goal
 

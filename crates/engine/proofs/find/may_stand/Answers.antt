@@ -1,4 +1,4 @@
-use Rattle.std.proofs.Common.{◌≡◌, ℕ, sym, ap, ◌∙◌}
+use Rattle.std.proofs.Common.{ℕ, ap, ◌∙◌}
 use Rattle.grammar.specs.Words.{meaning}
 use Rattle.engine.specs.Finding.{places_fit_lem}
 use Rattle.engine.proofs.Finding.{stand_tells}

@@ -1,4 +1,4 @@
-use Rattle.std.proofs.Common.{◌≡◌, ℕ, ◌<◌, ◌≤◌, length, replicate, Err, sym, refl, ap, ◌∙◌, subst, arith}
+use Rattle.std.proofs.Common.{◌≡◌, ℕ, length, replicate, Err, refl, ap, ◌∙◌, arith}
 use Rattle.grammar.specs.Words.{meaning}
 use Rattle.memo.specs.Tables.{Table}
 use Rattle.reading.specs.Reads.{Setting, setting}

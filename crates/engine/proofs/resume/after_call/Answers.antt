@@ -1,10 +1,3 @@
-use Rattle.std.proofs.Common.{◌≡◌, ℕ, sym, refl, ap, ◌∙◌}
-use Rattle.engine.specs.Frames.{going_on, so_far}
-use Rattle.engine.specs.Machine.{finish, rounds}
-use Rattle.peg.specs.declared.results.Reading.{Reading}
-use Rattle.peg.specs.Readings.{read_sequence, read_other}
-use Rattle.peg.specs.Rules.{caught}
-use Rattle.grammar.specs.Words.{Peg}
 use Rattle.reading.specs.Reads.{store}
 use Rattle.engine.proofs.Resuming.{call_gives, gives_as, stores_as}
 use Rattle.engine.proofs.resume.after_call.Goals as goal

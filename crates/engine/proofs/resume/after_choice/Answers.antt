@@ -1,11 +1,8 @@
-use Rattle.std.proofs.Common.{◌≡◌, ℕ, sym, refl, ap, ◌∙◌}
-use Rattle.engine.specs.Frames.{going_on, so_far}
-use Rattle.engine.specs.Machine.{finish, rounds}
+use Rattle.std.proofs.Common.{sym, ap, ◌∙◌}
 use Rattle.peg.specs.declared.results.Reading.{Reading}
-use Rattle.peg.specs.Readings.{read_sequence, read_other}
+use Rattle.peg.specs.Readings.{read_other}
 use Rattle.peg.specs.Rules.{caught}
 use Rattle.grammar.specs.Words.{Peg}
-use Rattle.reading.specs.Reads.{store}
 use Rattle.engine.proofs.Resuming.{one_stays, one_turns, other_gives, gives_as, goes_as}
 use Rattle.engine.proofs.resume.after_choice.Goals as goal
 

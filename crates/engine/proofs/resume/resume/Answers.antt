@@ -1,4 +1,4 @@
-use Rattle.std.proofs.Common.{◌≡◌, sym, refl, arith}
+use Rattle.std.proofs.Common.{sym, refl, arith}
 use Rattle.grammar.specs.Words.{meaning}
 use Rattle.reading.specs.Reads.{store}
 use Rattle.engine.proofs.Resuming.{handed_label, expr_in, predicate_gives, throw_gives, gives_as}

@@ -1,4 +1,4 @@
-use Rattle.std.proofs.Common.{◌≡◌, ℕ, ◌<◌, ◌≤◌, length, Ok, Err, sym, refl, ◌∙◌, arith, length-set}
+use Rattle.std.proofs.Common.{◌≡◌, length, Ok, Err, sym, refl, ◌∙◌, arith}
 use Rattle.grammar.specs.Words.{meaning}
 use Rattle.reading.specs.Reads.{Setting, setting, Store, store, Res}
 use Rattle.engine.proofs.Turns.{Goal, entered_in, opened_at, given_at, entered_refused, entered_give, entered_give_less, entered_open, entered_open_less, resumed_awaiting, resumed_give, resumed_give_less, resumed_open, resumed_open_less}

@@ -1,8 +1,7 @@
 use Rattle.std.proofs.Common.{◌≡◌, ◌≤◌, length}
-use Rattle.grammar.specs.declared.expr.Mode.TheVariants.{On}
 use Rattle.grammar.specs.Words.{meaning}
 use Rattle.engine.specs.Frames.{stack}
-use Rattle.reading.specs.Reads.{Setting, setting, store, expression, Reads}
+use Rattle.reading.specs.Reads.{setting, store}
 use Rattle.engine.specs.Machine.{Going, left}
 use Rattle.engine.proofs.Turns.{Goal}
 use Rattle.engine.proofs.run.evaluate.Given as goal

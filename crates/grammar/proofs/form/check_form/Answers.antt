@@ -1,10 +1,7 @@
-use Rattle.std.proofs.Common.{◌≡◌, sym, ap, ◌∙◌, subst, arith}
+use Rattle.std.proofs.Common.{◌∙◌, arith}
 use Rattle.grammar.specs.declared.marks.Fact.TheVariants.{MayMatchNothing, WalksEnd}
-use Rattle.grammar.specs.Words.{meaning}
-use Rattle.grammar.specs.Marks.{mark, Blank, Right, Ready}
 use Rattle.grammar.proofs.Referring.{whole}
 use Rattle.grammar.proofs.Marking.{blank_marks}
-use Rattle.grammar.proofs.Settling.{ready_still}
 use Rattle.grammar.proofs.form.check_form.Goals as goal
 
 pub settle-requires : goal.settle-requires

@@ -1,4 +1,4 @@
-use Rattle.std.proofs.Common.{◌≡◌, ℕ, ◌+◌, ◌-◌, ◌<◌, length, sym, ◌∙◌, subst, arith, below_more}
+use Rattle.std.proofs.Common.{◌≡◌, ◌+◌, ◌-◌, ◌<◌, length, sym, subst, arith, below_more}
 use Rattle.grammar.specs.Words.{meaning}
 use Rattle.grammar.specs.Questions.{Lowest, WordAtFault, word_of}
 use Rattle.grammar.specs.Marks.{mark, FaultAt}

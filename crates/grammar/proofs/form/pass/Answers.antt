@@ -1,4 +1,4 @@
-use Rattle.std.proofs.Common.{true, false, sym, ◌∙◌, arith}
+use Rattle.std.proofs.Common.{true, false, ◌∙◌, arith}
 use Rattle.grammar.specs.Words.{meaning}
 use Rattle.grammar.specs.Marks.{mark}
 use Rattle.grammar.proofs.Settling.{ready_still}

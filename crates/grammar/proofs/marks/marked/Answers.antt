@@ -1,4 +1,4 @@
-use Rattle.std.proofs.Common.{◌≡◌, ℕ, ◌+◌, ◌-◌, ◌^◌, ◌<◌, min, length, sym, ap, ◌∙◌, ap₂, arith}
+use Rattle.std.proofs.Common.{◌≡◌, ℕ, ◌+◌, ◌-◌, ◌^◌, ◌<◌, min, length, ap, ◌∙◌, ap₂, arith}
 use Rattle.grammar.specs.Words.{bit}
 use Rattle.grammar.specs.Marks.{mark, mode_bit}
 use Rattle.grammar.proofs.Marking.{word_there}

@@ -1,6 +1,6 @@
-use Rattle.std.proofs.Common.{◌≡◌, ℕ, ◌<◌, sym, ap, ◌∙◌, subst, arith}
+use Rattle.std.proofs.Common.{◌<◌, arith}
 use Rattle.std.proofs.lemmas.Nat.{one_shl}
-use Rattle.grammar.specs.Marks.{fact_bit, mode_bit}
+use Rattle.grammar.specs.Marks.{fact_bit}
 use Rattle.grammar.proofs.Marking.{set_marked, fact_low}
 use Rattle.grammar.proofs.marks.set_mark.Goals as goal
 

@@ -1,4 +1,3 @@
-use Rattle.std.proofs.Common.{◌/◌}
 use Rattle.std.proofs.lemmas.Nat.{and_mask}
 use Rattle.grammar.proofs.word.c_of.Goals as goal
 

@@ -1,4 +1,4 @@
-use Rattle.std.proofs.Common.{◌≡◌, ◌/◌, ◌^◌, ltb, sym, ◌∙◌, le-ltb}
+use Rattle.std.proofs.Common.{◌/◌, ◌^◌, sym, ◌∙◌, le-ltb}
 use Rattle.std.proofs.lemmas.Nat.{and_mask}
 use Rattle.grammar.proofs.Fields.{bit_high}
 use Rattle.grammar.proofs.word.holds.Goals as goal

@@ -1,4 +1,3 @@
-use Rattle.std.proofs.Common.{◌≡◌, ◌∙◌}
 use Rattle.text.proofs.Moves.{spliced}
 use Rattle.text.proofs.splice.splice.Goals as goal
 

@@ -1,4 +1,4 @@
-use Rattle.std.proofs.Common.{◌≡◌, ℕ, ◌/◌, ◌^◌, ◌<◌, eqb, refl, ap, ◌∙◌, arith}
+use Rattle.std.proofs.Common.{ℕ, ◌/◌, ◌^◌, ◌<◌, eqb, ap, arith}
 use Rattle.std.proofs.lemmas.Nat.{and_mask}
 use Rattle.grammar.specs.Words.{meaning}
 use Rattle.grammar.proofs.Finding.{mask_tells}
