@@ -29,7 +29,7 @@ pub record Lawful {E : Type 0} (fits : ℕ → ℕ → E → Bool) (b : Bounds) 
   pub answer : ReplyStands (parse_of (meaning ws) fits xs frames b) b.capacity q U
   -- the answer of every reading with as many frames from the emptied memory
   pub as_emptied : (T U' : Table) (p : Reply) → Empty T → Replies (parse_of (meaning ws) fits xs frames b) b.capacity T p U' → q.result ≡ p.result
-  -- plain evaluation within the frames completes one list of rule-places
+  -- there is a list of the rule-places that plain evaluation within the frames completes
   pub completes : (s : Res) × (zs : List RulePlace) × RuleComes (meaning ws) (accepted fits xs) frames 0 0 On s zs
   -- the count is not below the number of rule-places completed and not known before
   pub at_least : Covering (meaning ws) b → (s : Res) (zs : List RulePlace) → RuleComes (meaning ws) (accepted fits xs) frames 0 0 On s zs → fresh ks zs ≤ q.fresh

@@ -18,7 +18,7 @@ smallest_row = 0x80040100 ∷ 0x90000000 ∷ 0 ∷ []
 abbrev pub no_rows : Table
 no_rows r i o = None
 
--- the row of rule 0 at place 0 in mode on is held: a match of nothing
+-- only rule 0 has a row, in mode on at place 0: a match of nothing
 abbrev pub one_row : Table
 one_row zero zero On = Some (row_of 0 (read_alone 0 (Match 0) None))
 one_row zero zero Off = None

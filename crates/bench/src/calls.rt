@@ -70,7 +70,7 @@ pub fn settle<T: Text, M: Memory>(
     Settled::new()
 }
 
-/// Parses the text of a settled bench: rule 0 at place 0 in mode on.
+/// Parses the text of a settled bench: rule 0 in mode on at place 0.
 pub fn parse<T: Text, M: Memory>(
     _state: &Settled,
     grammar: &Grammar<'_>,

@@ -1,4 +1,4 @@
-//! The bench: one text, one memory and one accepted grammar, and the law over every run of its calls.
+//! The bench: a text with a memory and an accepted grammar, and the law over every run of its calls.
 #![tactic(auto)]
 
 ghost use Rattle.std.specs.Prelude.{true, false};

@@ -1,4 +1,4 @@
-//! The lent frames come back blank on every way out.
+//! Whichever way a reading ends, the lent frames are blank again.
 ghost use Rattle.std.specs.Prelude.{◌≡◌};
 ghost use Rattle.engine.specs.Frames.{blanked};
 

@@ -36,7 +36,7 @@ fn answered(res: Result<Reading, Refusal>) -> Result<Answer, Refusal>
     }
 }
 
-/// Rule 0 at place 0 in mode on.
+/// Rule 0 in mode on at place 0.
 fn root<T: Text, M: Memory>(
     grammar: &Grammar<'_>,
     text: &T,
@@ -70,11 +70,11 @@ fn covers(places: usize, capacity: usize, rules: usize, needed: usize) -> bool
     capacity < places && needed <= rules
 }
 
-/// Reads a text by a grammar: rule 0 at place 0 in mode on.
+/// Reads a text by a grammar: rule 0 in mode on at place 0.
 ///
 /// The reply and the rows left are those of a reading (`replies`); what that promises, in the words of the rules and by number, is `promised`
 /// and `numbered`.
-/// The frames come back blank on every way out, whatever they held; their number bounds the depth.
+/// The frames are blank again whichever way it ends, whatever they held; their number bounds the depth.
 pub fn read<T: Text, M: Memory>(
     grammar: &Grammar<'_>,
     text: &T,

@@ -41,7 +41,7 @@ pub record Endless (g : Peg) (e : ℕ) (m : Mode) : Type 0 where
   pub starts_in : mode 0 ≡ m
   pub goes : (k : ℕ) → Leads g (g.expr (place k)) (mode k) (place (suc k)) (mode (suc k))
 
--- what an expression names exists
+-- the rule, the operands and the recovery expression that an expression names exist; its set and label are not asked about
 abbrev pub Refers : Peg → Expr → Type 0
 Refers g Empty = Unit {0}
 Refers g (Terminal a b c) = Unit {0}
@@ -52,7 +52,7 @@ Refers g (Repetition a) = a < g.N
 Refers g (Predicate a) = a < g.N
 Refers g (Throw l) = (e : ℕ) → g.recovery l ≡ Some e → e < g.N
 
--- bodies of rules, and all that expressions name, exist
+-- so it is of every expression, and the bodies of rules exist
 abbrev pub Whole : Peg → Type 0
 Whole g = ((r : ℕ) → r < g.R → g.body r < g.N) × ((e : ℕ) → e < g.N → Refers g (g.expr e))
 

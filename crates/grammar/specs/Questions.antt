@@ -155,7 +155,7 @@ WordAtFault ws No w = (e : ℕ) × (e < (meaning ws).N) × (w ≡ word_of ws e) 
 abbrev pub Hollow : List ℕ → ℕ → Type 0
 Hollow ws = WordAtFault ws (HollowAt (meaning ws))
 
--- an expression from which a walk to leading parts can go on for ever, in either mode
+-- an expression from which some walk to leading parts is endless, in either mode
 abbrev pub EndlessAt : Peg → ℕ → Type 0
 EndlessAt g e = (m : Mode) × Endless g e m
 

@@ -117,21 +117,21 @@ impl<'a> Grammar<'a> {
         expr_of(self.words, number)
     }
 
-    /// The body of a rule.
+    /// The body of a rule; beyond the last rule, a number without meaning.
     pub fn body(&self, rule: usize) -> usize
         ensures { result ≡ (meaning self.now.words.now).body rule }
     {
         body_of(self.words, rule)
     }
 
-    /// The recovery expression of a label, if it has one.
+    /// The recovery expression of a label, if it has one; an answer without meaning for a number that is no label's.
     pub fn recovery(&self, label: usize) -> Option<usize>
         ensures { result ≡ (meaning self.now.words.now).recovery label }
     {
         recovery_of(self.words, label)
     }
 
-    /// Whether a set holds a label.
+    /// Whether a set holds a label; an answer without meaning beyond the last set, or above label 27.
     pub fn catches(&self, set: usize, label: usize) -> bool
         ensures { result ≡ (meaning self.now.words.now).catches set label }
     {

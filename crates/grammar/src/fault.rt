@@ -1,4 +1,4 @@
-//! What is wrong with a row of words, layer by layer: an upper layer's fault holds the lower one whole.
+//! What is wrong with a row of words, layer by layer: a layer's fault keeps that of the layer below unchanged.
 ghost use Rattle.std.specs.Prelude.{◌≡◌};
 ghost use Rattle.grammar.specs.Faults.{wrong, word_report, reference_report, work_report, form_report};
 ghost use Rattle.grammar.specs.declared.fault.FormFault.TheVariants.{Work as ofWork};

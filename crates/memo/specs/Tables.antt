@@ -23,7 +23,7 @@ Empty T = (r i : ℕ) (o : Mode) → T r i o ≡ None
 pub record Puts (keeps : Bool) (P Q : ℕ) (T : Table) (r i : ℕ) (o : Mode) (x : Row) (U : Table) : Type 0 where
   -- within P and Q the row stands at its key
   pub stands : r < Q → i < P → U r i o ≡ Some x
-  -- every other row held after was held before
+  -- no other key gets a row that it did not have
   pub others : (r' i' : ℕ) (o' : Mode) (y : Row) → U r' i' o' ≡ Some y → Same r' i' o' r i o ⊎ (T r' i' o' ≡ Some y)
   -- outside P and Q nothing happens
   pub outside : (Q ≤ r) ⊎ (P ≤ i) → (r' i' : ℕ) (o' : Mode) → U r' i' o' ≡ T r' i' o'

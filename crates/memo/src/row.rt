@@ -25,6 +25,6 @@ pub struct Row {
     pub first: u16,
     /// How deep its evaluation went.
     pub depth: u64,
-    /// To one more than the greatest place at which anything in it was evaluated.
+    /// To the place after the farthest one at which anything was evaluated.
     pub reach: u32,
 }

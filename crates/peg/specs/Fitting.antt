@@ -14,7 +14,7 @@ use Rattle.peg.specs.Results.{Given, told}
 use Rattle.peg.specs.Rules.{Text, Gives, RuleGives}
 use Rattle.peg.specs.Totality.{Ends}
 
--- only labels of the grammar are thrown
+-- no label above the grammar's is thrown
 abbrev pub Labelled : Peg → Type 0
 Labelled g = (e l : ℕ) → e < g.N → g.expr e ≡ Throw l → l ≤ g.L
 

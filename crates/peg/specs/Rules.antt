@@ -195,7 +195,7 @@ pub data Gives (g : Peg) (t : Text) : Expr → ℕ → Mode → Given → Type 0
 pub data RuleGives (g : Peg) (t : Text) : ℕ → ℕ → Mode → Given → Type 0 where
   as_its_body : {r i : ℕ} {m : Mode} {v : Given} → Gives g t (g.expr (g.body r)) i m v → RuleGives g t r i m (of_rule r i m v)
 
--- a parse is rule 0 at place 0 in mode on
+-- a parse is rule 0 in mode on at place 0
 abbrev pub Parses : Peg → Text → Given → Type 0
 Parses g t v = RuleGives g t 0 0 On v
 

@@ -14,7 +14,7 @@ pub struct Note {
     pub marks: u32,
 }
 
-/// How many throws were recovered, a count that stops at 65,535, with label and place of the first; all 0 if none was.
+/// How many throws were recovered, but never more than 65,535, and the first one's label and place; all 0 if none was.
 #[derive(Clone, Copy, PartialEq, Eq, Debug)]
 pub struct Recoveries {
     pub count: u16,

@@ -11,7 +11,7 @@ accepted fits (x ∷ xs) a b (suc i) = accepted fits xs a b i
 abbrev pub replaced : {E : Type 0} → List E → ℕ → ℕ → List E → List E
 replaced xs p k ys = take p xs ++ (ys ++ drop (p + k) xs)
 
--- a byte is accepted from a to b
+-- a byte is accepted if it is at least a and at most b
 abbrev pub byte_in : ℕ → ℕ → ℕ → Bool
 byte_in a b x = nat_le a x && nat_le x b
 
@@ -23,6 +23,6 @@ event_kind x = x / 2 ^ 28
 abbrev pub event_loop : ℕ → ℕ
 event_loop x = x / 2 ^ 24 % 2 ^ 4
 
--- an event is accepted if its kind is a, and its loop is b or b is 16, which stands for any loop
+-- an event is accepted where a is its kind and b is its loop or 16, which stands for any loop
 abbrev pub event_in : ℕ → ℕ → ℕ → Bool
 event_in a b x = event_kind x == a && (b == 16 || event_loop x == b)
