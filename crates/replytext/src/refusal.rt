@@ -1,7 +1,7 @@
 //! Refusals as text: those of texts, of the whole memory and of parses.
 ghost use Rattle.std.specs.Prelude.{◌≡◌, Some, Err};
 ghost use Rattle.text.specs.Refusals.{edit_number, make_number};
-ghost use Rattle.memo.specs.Making.{number as memory-number};
+ghost use Rattle.memo.specs.Making.{number as memory_number};
 ghost use Rattle.reading.specs.Replies.{number};
 ghost use Rattle.replytext.specs.Replies.{refused_text};
 
@@ -33,7 +33,7 @@ fn make_number_of(refusal: MakeRefusal) -> u8
 
 /// The number of a refused memory.
 fn memory_number_of(refusal: MemoryRefusal) -> u8
-    ensures { result ≡ memory-number refusal }
+    ensures { result ≡ memory_number refusal }
 {
     match refusal {
         MemoryRefusal::Size => 15,
@@ -82,7 +82,7 @@ impl fmt::Display for Shown<MakeRefusal> {
 }
 
 impl fmt::Display for Shown<MemoryRefusal> {
-    ghost output = { λ r. Some (refused_text (memory-number r.0)) };
+    ghost output = { λ r. Some (refused_text (memory_number r.0)) };
 
     fn fmt<W: fmt::Write>(&self, f: &mut fmt::Formatter<W>) -> fmt::Result {
         Refused(memory_number_of(self.0)).fmt(f)

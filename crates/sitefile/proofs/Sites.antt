@@ -22,7 +22,7 @@ use Rattle.bench.specs.Law.{Lawful}
 use Rattle.bench.specs.Calls.{bounds, Obeys}
 use Rattle.replytext.specs.Replies.{refused_text, reply_text}
 use Rattle.sitefile.specs.Lines.{most_bytes, frames, site_bounds, SoleReply, newline, SiteLine, too_long, Shows}
-use Rattle.sitefile.specs.Lines.{replied as replied-line}
+use Rattle.sitefile.specs.Lines.{replied as replied_line}
 
 -- the first n bytes stand before what the buffer held
 module _ (n m : ℕ) (bytes buffer xs : List ℕ) (least : n ≡ min (length bytes) (length buffer)) (same : m ≡ n) (copied : xs ≡ take m bytes) where
@@ -106,7 +106,7 @@ too_many n (Err Count) x e buffer count = (ap (λ y. make_number (Err y)) (sym (
 
 module _ (input line : List ℕ) where
   pub shows_reply : (q : Reply) → length input ≤ most_bytes → SoleReply input q → line ≡ reply_text q ++ (newline ∷ []) → Shows input line
-  shows_reply q few r e = (replied-line few r.0 e, other)
+  shows_reply q few r e = (replied_line few r.0 e, other)
     where
       other : (o : List ℕ) → SiteLine input o → o ≡ line
       other o (SiteLine.replied {q = p} l t f) = f ∙ ap (λ x. reply_text x ++ (newline ∷ [])) (r.1 p t) ∙ sym e
