@@ -14,8 +14,8 @@ abbrev pub ring_table : Ring → Table
 ring_table s = found (model s)
 
 -- P and Q of every ring
-abbrev pub ring_p : Ring → ℕ
-ring_p s = 65536
+abbrev pub ring_P : Ring → ℕ
+ring_P s = 65536
 
-abbrev pub ring_q : Ring → ℕ
-ring_q s = 64
+abbrev pub ring_Q : Ring → ℕ
+ring_Q s = 64

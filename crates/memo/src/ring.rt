@@ -2,7 +2,7 @@
 ghost use Rattle.std.specs.Prelude.{◌≡◌, ◌<◌, true, false, []};
 ghost use Rattle.memo.specs.Tables.{Puts, Shifts, Empty};
 ghost use Rattle.memo.specs.Entries.{RoomyFor, put_in, shifted};
-ghost use Rattle.memo.specs.Rings.{model, ring_table, ring_p, ring_q};
+ghost use Rattle.memo.specs.Rings.{model, ring_table, ring_P, ring_Q};
 
 pub use self::state::Ring;
 use crate::entries::{Entry, PLACES, RULES, enter, find, shift_all};
@@ -47,9 +47,9 @@ impl Ring {
 impl Memory for Ring {
     ghost table = { ring_table };
 
-    ghost P = { ring_p };
+    ghost P = { ring_P };
 
-    ghost Q = { ring_q };
+    ghost Q = { ring_Q };
 
     ghost keeps = { false };
 
@@ -66,11 +66,11 @@ impl Memory for Ring {
     }
 
     fn put(&mut self, rule: usize, place: usize, mode: Mode, row: Row)
-        ensures puts { Puts false (ring_p self.old) (ring_q self.old) (ring_table self.old) rule place mode row (ring_table self.new) }
-        ensures places { ring_p self.new ≡ ring_p self.old }
-        ensures rules { ring_q self.new ≡ ring_q self.old }
+        ensures puts { Puts false (ring_P self.old) (ring_Q self.old) (ring_table self.old) rule place mode row (ring_table self.new) }
+        ensures places { ring_P self.new ≡ ring_P self.old }
+        ensures rules { ring_Q self.new ≡ ring_Q self.old }
         ensures order { model self.new ≡ put_in rule place mode row (model self.old) }
-        ensures keeps { RoomyFor (model self.old) (record { rule = rule; place = place; mode = mode; row = row }) → Puts true (ring_p self.old) (ring_q self.old) (ring_table self.old) rule place mode row (ring_table self.new) }
+        ensures keeps { RoomyFor (model self.old) (record { rule = rule; place = place; mode = mode; row = row }) → Puts true (ring_P self.old) (ring_Q self.old) (ring_table self.old) rule place mode row (ring_table self.new) }
     {
         if rule < RULES && place < PLACES {
             let new = Entry {
@@ -84,19 +84,19 @@ impl Memory for Ring {
     }
 
     fn shift(&mut self, p: usize, k: usize, m: usize)
-        ensures shifts { Shifts false (ring_p self.old) p k m (ring_table self.old) (ring_table self.new) }
-        ensures places { ring_p self.new ≡ ring_p self.old }
-        ensures rules { ring_q self.new ≡ ring_q self.old }
+        ensures shifts { Shifts false (ring_P self.old) p k m (ring_table self.old) (ring_table self.new) }
+        ensures places { ring_P self.new ≡ ring_P self.old }
+        ensures rules { ring_Q self.new ≡ ring_Q self.old }
         ensures order { model self.new ≡ shifted p k m (model self.old) }
-        ensures keeps { Shifts true (ring_p self.old) p k m (ring_table self.old) (ring_table self.new) }
+        ensures keeps { Shifts true (ring_P self.old) p k m (ring_table self.old) (ring_table self.new) }
     {
         self.count = shift_all(&mut self.entries, self.count, p, k, m);
     }
 
     fn empty(&mut self)
         ensures empty { Empty (ring_table self.new) }
-        ensures places { ring_p self.new ≡ ring_p self.old }
-        ensures rules { ring_q self.new ≡ ring_q self.old }
+        ensures places { ring_P self.new ≡ ring_P self.old }
+        ensures rules { ring_Q self.new ≡ ring_Q self.old }
         ensures order { model self.new ≡ [] }
     {
         self.count = 0;
