@@ -35,7 +35,6 @@ SPECIAL = {
 }
 
 WORD = r"[^\s(){}\[\];,.]+"
-DECLARED = re.compile(r"^(\s*)((?:(?:abbrev|unfoldable|pub|mutual|private)\s+)*)(data\s+|record\s+)?(?:pub\s+)?(" + WORD + r")\s*(?=[:({]|\s)(.*)$")
 
 
 def files(root, ends):

@@ -62,7 +62,7 @@ module _ {E : Type 0} (fits : ℕ → ℕ → E → Bool) (keeps : Bool) {P P' Q
     knows_parsed xs T U frames q d first cs ks r = (some_learned xs T frames r d, each_learned xs T frames r d)
 
 -- where it is told which rule-places are known after a call, there is a run after it
-pub some_run : {E : Type 0} {fits : ℕ → ℕ → E → Bool} {b : Bounds} {ws : List ℕ} {first xs : List E} {cs : List (Change E)} {T : Table} {s : State} {After : List RulePlace → Type 0}
+some_run : {E : Type 0} {fits : ℕ → ℕ → E → Bool} {b : Bounds} {ws : List ℕ} {first xs : List E} {cs : List (Change E)} {T : Table} {s : State} {After : List RulePlace → Type 0}
     → RunsKnowing fits b ws first cs xs T s After → Runs fits b ws first cs xs T s
 some_run x = (x.0.0, x.1 x.0.0 x.0.1)
 

@@ -31,7 +31,7 @@ fn slot_of(places: usize, rules: usize, rule: usize, place: usize, mode: Mode) -
 }
 
 /// The row of the key.
-pub fn look_in(
+pub(crate) fn look_in(
     words: &[u32],
     places: usize,
     rules: usize,
@@ -51,7 +51,7 @@ pub fn look_in(
 }
 
 /// Makes the row stand at its key.
-pub fn put_in(
+pub(crate) fn put_in(
     words: &mut [u32],
     places: usize,
     rules: usize,
@@ -72,7 +72,7 @@ pub fn put_in(
 }
 
 /// Drops every row.
-pub fn empty_in(words: &mut [u32], places: usize, rules: usize)
+pub(crate) fn empty_in(words: &mut [u32], places: usize, rules: usize)
     requires room { 16 * (places * rules) ≤ length words.old }
     requires few { rules < 2 ^ 32 }
     ensures empty { Empty (rows words.new places rules) }
@@ -143,7 +143,7 @@ fn nth(k: usize, m: usize, n: usize, t: usize) -> usize
 }
 
 /// Keeps, moves and drops rows as k elements at p become m, in one pass over the slots.
-pub fn shift_in(words: &mut [u32], places: usize, rules: usize, p: usize, k: usize, m: usize)
+pub(crate) fn shift_in(words: &mut [u32], places: usize, rules: usize, p: usize, k: usize, m: usize)
     requires room { 16 * (places * rules) ≤ length words.old }
     requires few { rules < 2 ^ 32 }
     ensures shifts { Shifts true places p k m (rows words.old places rules) (rows words.new places rules) }

@@ -21,7 +21,7 @@ pub struct Entry {
 
 impl Entry {
     /// Whether it is of this key.
-    pub fn is(&self, rule: usize, place: usize, mode: Mode) -> bool
+    pub(crate) fn is(&self, rule: usize, place: usize, mode: Mode) -> bool
         ensures { result ≡ names self.now rule place mode }
     {
         self.rule == rule && self.place == place && self.mode == mode
@@ -29,7 +29,7 @@ impl Entry {
 }
 
 /// The row of the newest entry of a key.
-pub fn find(entries: &[Entry], rule: usize, place: usize, mode: Mode) -> Option<Row>
+pub(crate) fn find(entries: &[Entry], rule: usize, place: usize, mode: Mode) -> Option<Row>
     ensures { result ≡ found entries.now rule place mode }
 {
     for e in entries {
@@ -42,7 +42,7 @@ pub fn find(entries: &[Entry], rule: usize, place: usize, mode: Mode) -> Option<
 
 /// Puts an entry in front: each other goes one back, up to the old one of its key, or the one put longest ago.
 /// Gives how many there are now.
-pub fn enter(entries: &mut [Entry; 64], count: usize, new: Entry) -> usize
+pub(crate) fn enter(entries: &mut [Entry; 64], count: usize, new: Entry) -> usize
     requires few { count ≤ 64 }
     requires lawful { lawful (take count entries.old) ≡ true }
     ensures entered { take result entries.new ≡ entered new (take count entries.old) }
@@ -85,7 +85,13 @@ fn home(place: usize, reach: u32, p: usize, k: usize, m: usize) -> Option<usize>
 }
 
 /// Keeps, moves and drops entries, in their order. Gives how many are left.
-pub fn shift_all(entries: &mut [Entry; 64], count: usize, p: usize, k: usize, m: usize) -> usize
+pub(crate) fn shift_all(
+    entries: &mut [Entry; 64],
+    count: usize,
+    p: usize,
+    k: usize,
+    m: usize,
+) -> usize
     requires { count ≤ 64 }
     ensures shifted { take result entries.new ≡ shifted p k m (take count entries.old) }
     ensures few { result ≤ count }

@@ -86,7 +86,7 @@ fn encode(row: Option<Row>) -> [u32; 8]
 }
 
 /// The row in slot s.
-pub fn read(words: &[u32], s: usize) -> Option<Row>
+pub(crate) fn read(words: &[u32], s: usize) -> Option<Row>
     requires { 8 * s + 8 ≤ length words.now }
     ensures { result ≡ slot_row words.now s }
 {
@@ -104,7 +104,7 @@ pub fn read(words: &[u32], s: usize) -> Option<Row>
 }
 
 /// Makes slot s hold the row, or none.
-pub fn write(words: &mut [u32], s: usize, row: Option<Row>)
+pub(crate) fn write(words: &mut [u32], s: usize, row: Option<Row>)
     requires { 8 * s + 8 ≤ length words.old }
     ensures { Written words.old s row words.new }
 {

@@ -4,7 +4,7 @@ ghost use Rattle.text.specs.Meaning.{replaced};
 ghost use Rattle.std.proofs.Math.Seq.{paste};
 
 /// Puts the items where k elements stood at p, among the n in front; the elements behind them move up or down.
-pub fn splice<E: Copy>(places: &mut [E], n: usize, p: usize, k: usize, items: &[E])
+pub(crate) fn splice<E: Copy>(places: &mut [E], n: usize, p: usize, k: usize, items: &[E])
     requires used { n ≤ length places.old }
     requires range { p + k ≤ n }
     requires room { n - k + length items.now ≤ length places.old }

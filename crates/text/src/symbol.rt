@@ -47,7 +47,7 @@ fn loop_of(word: u32) -> u32
 }
 
 /// Whether the pair a, b accepts the element at a place; from the end on there is none, and the answer is no.
-pub fn accepts_at<E: Symbol>(elements: &[E], a: u32, b: u32, place: usize) -> bool
+pub(crate) fn accepts_at<E: Symbol>(elements: &[E], a: u32, b: u32, place: usize) -> bool
     ensures { result ≡ accepted E.Symbol.matches elements.now a b place }
 {
     if place >= elements.len() {
