@@ -3,6 +3,7 @@ use Rattle.std.proofs.Common.{◌≡◌, ℕ, ◌+◌, ◌^◌, ◌<◌, ◌≤�
 use mathlib.Core.Logic.{∥∥₁_map, ∥∥₁_elim}
 use mathlib.Core.HLevel.{⊥_prop}
 use lib.Bits.{bit_or}
+use Rattle.std.proofs.Math.Bool.{or-false}
 use Rattle.std.proofs.lemmas.Bool.{both_ways, cases_Bool, cases_eq, or_left, or_right, or_cases, not-true}
 use Rattle.grammar.specs.declared.expr.Mode.{Mode}
 use Rattle.grammar.specs.declared.expr.Mode.TheVariants.{On, Off}
@@ -14,7 +15,7 @@ use Rattle.grammar.specs.Words.{bit, Peg, meaning}
 use Rattle.grammar.specs.Form.{Endless, Whole, Refers}
 use Rattle.grammar.specs.Questions.{WordAtFault, word_of, Lowest, Never, Tells, HollowAt}
 use Rattle.grammar.specs.Marks.{Marks, Decided, Right, Mask, FaultAt, hollow, faulty, NullableRule}
-use Rattle.grammar.proofs.Fields.{bit-bit_or, bit_same, bit_other, bit_high}
+use Rattle.grammar.proofs.Fields.{bit-bit_or, bit_same, bit_other}
 
 -- the lowest number at fault is the lowest word at fault
 pub lowest_word : (ws : List ℕ) (No : ℕ → Type 0) (e : ℕ) → e < (meaning ws).N → No e → ((k : ℕ) → k < e → No k → ⊥) → Lowest (WordAtFault ws No) (word_of ws e)
@@ -78,18 +79,14 @@ pub record BitsBelow (test : ℕ → Bool) (mask k : ℕ) : Type 0 where
   pub same : (j : ℕ) → j < k → bit mask j ≡ test j
   pub none : (j : ℕ) → k ≤ j → bit mask j ≡ false
 
-or_with_false : (a : Bool) → (a || false) ≡ a
-or_with_false true = refl
-or_with_false false = refl
-
 module _ (test : ℕ → Bool) (mask k : ℕ) (before : BitsBelow test mask k) where
   pub bit_on : test k ≡ true → BitsBelow test (bit_or mask (2 ^ k)) (k + 1)
   bit_on t = record {
     same = λ j l. elim (cases_eq k j) [
       | inl e ↦ bit-bit_or mask (2 ^ k) j ∙ or_right _ _ (subst (λ (i : ℕ). bit (2 ^ k) i ≡ true) e (bit_same k)) ∙ sym (subst (λ (i : ℕ). test i ≡ true) e t)
-      | inr ne ↦ bit-bit_or mask (2 ^ k) j ∙ ap (λ (b : Bool). bit mask j || b) (bit_other k j ne) ∙ or_with_false _ ∙ before.same j (let d : k ≡ j → ⊥ = ne in omega arith)
+      | inr ne ↦ bit-bit_or mask (2 ^ k) j ∙ ap (λ (b : Bool). bit mask j || b) (bit_other k j ne) ∙ or-false _ ∙ before.same j (let d : k ≡ j → ⊥ = ne in omega arith)
     ];
-    none = λ j l. bit-bit_or mask (2 ^ k) j ∙ ap (λ (b : Bool). bit mask j || b) (bit_other k j (λ e. omega arith)) ∙ or_with_false _ ∙ before.none j (omega arith);
+    none = λ j l. bit-bit_or mask (2 ^ k) j ∙ ap (λ (b : Bool). bit mask j || b) (bit_other k j (λ e. omega arith)) ∙ or-false _ ∙ before.none j (omega arith);
   }
 
   pub bit_off : test k ≡ false → BitsBelow test mask (k + 1)
@@ -100,17 +97,6 @@ module _ (test : ℕ → Bool) (mask k : ℕ) (before : BitsBelow test mask k) w
     ];
     none = λ j l. before.none j (omega arith);
   }
-
-pub no_bits_below : (test : ℕ → Bool) → BitsBelow test 0 0
-no_bits_below test = record { same = λ j l. absurd (omega arith); none = λ j l. bit_high 0 j 0 (omega arith) (omega arith) }
-
--- such a mask tells which rules may match nothing
-pub mask_of : (g : Peg) (s : Marks) (m : Mode) (mask k : ℕ) → Whole g → Right g s → k ≡ g.R → BitsBelow (λ r. s MayMatchNothing (g.body r) m) mask k → Mask g m mask
-mask_of g s m mask k whole r e b j l =
-    let at : bit mask j ≡ s MayMatchNothing (g.body j) m = b.same j (omega arith) in (
-      λ t. r.true_marks (g.body j) m (whole.0 j l) (sym at ∙ t),
-      λ t n. both_ways (bit mask j) t (at ∙ r.all_marks (g.body j) m (whole.0 j l) n),
-    )
 
 -- a bit of the mask tells of a rule
 pub mask_tells : (g : Peg) (m : Mode) (mask r : ℕ) (b : Bool) → ∥ Mask g m mask ∥₁ → r < g.R → b ≡ bit mask r → Tells b (NullableRule g m r)

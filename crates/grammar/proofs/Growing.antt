@@ -1,21 +1,17 @@
 -- Marks that grow: one by one, in a pass, and over passes.
 use Rattle.std.proofs.Common.{◌≡◌, ℕ, ◌+◌, ◌<◌, Bool, true, false, ◌||◌, List, sym, refl, ◌∙◌, subst, inl, inr, arith}
-use Rattle.std.proofs.lemmas.Bool.{both_ways, cases_eq}
+use Rattle.std.proofs.lemmas.Bool.{both_ways, cases_eq, or_parts}
 use Rattle.grammar.specs.declared.expr.Mode.{Mode}
 use Rattle.grammar.specs.declared.marks.Fact.{Fact}
 use Rattle.grammar.specs.declared.marks.Fact.TheVariants.{MayMatchNothing, WalksEnd}
 use Rattle.grammar.specs.Words.{Peg}
 use Rattle.grammar.specs.Form.{Whole}
-use Rattle.grammar.specs.Marks.{Marks, mark, Marked, due, Backed, Blank, Ready, other, missing, Grew, Tried, Holds}
+use Rattle.grammar.specs.Marks.{mark, Marked, due, Backed, Ready, other, missing, Grew, Tried, Holds}
 use Rattle.grammar.proofs.Settling.{due_holds, missing_lt}
 
 not_other : (f : Fact) → other f ≡ f → ⊥
-not_other MayMatchNothing p = let z : ◌≡◌ {A = ℕ} 0 1 = cc in absurd (omega arith)
-not_other WalksEnd p = let z : ◌≡◌ {A = ℕ} 0 1 = cc in absurd (omega arith)
-
--- nothing new
-pub grew_none : (g : Peg) (ws : List ℕ) (f : Fact) → Backed g (mark ws) f → Grew g ws ws f false
-grew_none g ws f b = record { backed = b; same = λ e m. refl; fewer = λ p. absurd (both_ways false refl p); rest = λ p. refl }
+not_other MayMatchNothing p = cc
+not_other WalksEnd p = cc
 
 -- one mark more
 pub grew_one : (g : Peg) (ws xs : List ℕ) (f : Fact) (e : ℕ) (m : Mode) → Whole g → e < g.N → Ready g (mark ws) f → Backed g (mark ws) f
@@ -34,17 +30,13 @@ grew_one g ws xs f e m whole low ready backed unset d one = record {
   rest = λ p. absurd (both_ways true p refl);
 }
 
-or_false_parts : (a b : Bool) → (a || b) ≡ false → (a ≡ false) × (b ≡ false)
-or_false_parts true b p = absurd (both_ways true p refl)
-or_false_parts false b p = (refl, p)
-
 -- growth after growth
 pub grew_then : (g : Peg) (ws xs ys : List ℕ) (f : Fact) (a b : Bool) → Grew g ws xs f a → Grew g xs ys f b → Grew g ws ys f (a || b)
 grew_then g ws xs ys f a b one two = record {
   backed = two.backed;
   same = λ e m. two.same e m ∙ one.same e m;
   fewer = fewer a b one.fewer two.fewer one.rest two.rest;
-  rest = λ p. two.rest (or_false_parts a b p).1 ∙ one.rest (or_false_parts a b p).0;
+  rest = λ p. two.rest (or_parts a b p).1 ∙ one.rest (or_parts a b p).0;
 }
   where
     fewer : (a b : Bool) → (a ≡ true → missing (mark xs) f g.N < missing (mark ws) f g.N) → (b ≡ true → missing (mark ys) f g.N < missing (mark xs) f g.N)
@@ -53,32 +45,17 @@ grew_then g ws xs ys f a b one two = record {
     fewer true false h k r q p = rw (q refl) (h refl)
     fewer false b h k r q p = rw (sym (r refl)) (k p)
 
--- where no mark is set, all marks are true
-pub blank_backed : (g : Peg) (s : Marks) (f : Fact) → Blank s f → Backed g s f
-blank_backed g s f blank e m l t = absurd (both_ways (s f e m) (blank e m) t)
-
 -- one expression more in a pass
-pub pass_more : (g : Peg) (ws xs ys : List ℕ) (f : Fact) (a b r : Bool) (n : ℕ) → r ≡ (a || b)
+pub pass_more : (g : Peg) (ws xs ys : List ℕ) (f : Fact) (a b : Bool) (n : ℕ)
     → Grew g ws xs f a × (a ≡ false → (e : ℕ) (m : Mode) → e < n → Tried g (mark xs) f e m)
     → Grew g xs ys f b → (b ≡ false → (m : Mode) → Tried g (mark xs) f n m)
-    → Grew g ws ys f r × (r ≡ false → (e : ℕ) (m : Mode) → e < n + 1 → Tried g (mark ys) f e m)
-pass_more g ws xs ys f a b r n p before two here = (
-  subst (Grew g ws ys f) (sym p) (grew_then g ws xs ys f a b before.0 two),
-  λ q. let parts = or_false_parts a b (sym p ∙ q) in
+    → Grew g ws ys f (a || b) × ((a || b) ≡ false → (e : ℕ) (m : Mode) → e < n + 1 → Tried g (mark ys) f e m)
+pass_more g ws xs ys f a b n before two here = (
+  grew_then g ws xs ys f a b before.0 two,
+  λ q. let parts = or_parts a b q in
       subst (λ (zs : List ℕ). (e : ℕ) (m : Mode) → e < n + 1 → Tried g (mark zs) f e m) (sym (two.rest parts.1))
       (λ e m l. elim (cases_eq e n) [
         | inl eq ↦ subst (λ (k : ℕ). Tried g (mark xs) f k m) (sym eq) (here parts.1 m)
         | inr ne ↦ before.1 parts.0 e m (omega arith)
       ]),
 )
-
-or_true : (a : Bool) → true ≡ (a || true)
-or_true true = refl
-or_true false = refl
-
-pub or_not : (a : Bool) → a ≡ (a || false)
-or_not true = refl
-or_not false = refl
-
-pub or_so : (a r : Bool) → r ≡ true → r ≡ (a || true)
-or_so a r p = p ∙ or_true a

@@ -2,6 +2,7 @@
 use Rattle.std.proofs.Common.{◌≡◌, ℕ, zero, suc, ◌+◌, ◌-◌, ◌*◌, ◌^◌, ◌<◌, ◌≤◌, min, Bool, true, false, ◌||◌, ◌≢◌, ◌⊎◌, List, length, get_or, set, replicate, sym, refl, ap, ◌∙◌, inl, inr, arith}
 use lib.Bits.{bit_or}
 use Rattle.std.proofs.lemmas.List.{get_or-set_same, get_or-set_other, get_or_past}
+use Rattle.std.proofs.Math.Bool.{or-false}
 use Rattle.std.proofs.lemmas.Bool.{cases_eq, cases_lt, or_right}
 use Rattle.grammar.specs.declared.expr.Mode.{Mode}
 use Rattle.grammar.specs.declared.expr.Mode.TheVariants.{On, Off}
@@ -22,10 +23,6 @@ same_word On On e e' p = (omega arith, refl)
 same_word On Off e e' p = absurd (omega arith)
 same_word Off On e e' p = absurd (omega arith)
 same_word Off Off e e' p = (omega arith, refl)
-
-or_false : (b : Bool) → (b || false) ≡ b
-or_false true = refl
-or_false false = refl
 
 pub half_low : (m : Mode) → mode_bit m ≤ 1
 half_low On = omega arith
@@ -57,7 +54,7 @@ module _ (ws : List ℕ) (f : Fact) (e : ℕ) (m : Mode) (room : 2 * e + 1 < len
       ap (λ (w : ℕ). bit w (fact_bit f')) read_here
       ∙ bit-bit_or (get_or ws (2 * e + mode_bit m) 0) (2 ^ fact_bit f) (fact_bit f')
       ∙ ap (λ (b : Bool). bit (get_or ws (2 * e + mode_bit m) 0) (fact_bit f') || b) (bit_other (fact_bit f) (fact_bit f') ne)
-      ∙ or_false _
+      ∙ or-false _
 
   elsewhere : (i : ℕ) → i ≢ 2 * e + mode_bit m → get_or after i 0 ≡ get_or ws i 0
   unfolding after

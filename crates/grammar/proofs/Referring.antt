@@ -3,6 +3,7 @@ use Rattle.std.proofs.Common.{◌≡◌, ℕ, zero, suc, ◌+◌, ◌-◌, ◌<�
 use Rattle.std.proofs.lemmas.Bool.{cases_Bool, and_parts, ltb-true, leb-true, le-leb, lt-leb}
 use Rattle.grammar.specs.declared.expr.Expr.TheVariants.{Terminal, Throw}
 use Rattle.grammar.specs.declared.part.Part.{Part}
+use Rattle.grammar.specs.declared.references.WholeRow.{WholeRow}
 use Rattle.grammar.specs.declared.part.Part.TheVariants.{Rule, Label, Expression}
 use Rattle.grammar.specs.Words.{kind, field_a, field_b, field_c, of_kind, recovery_by, Peg, meaning}
 use Rattle.grammar.specs.Form.{Refers, Whole, Solid, Ending}
@@ -52,18 +53,18 @@ named_refers g labels e low (suc (suc (suc (suc (suc (suc (suc n))))))) a b c t 
     λ k p. labels a k (leb-true 1 a h.0) (leb-true a g.L h.1) p
 
 recovery_low : (g : Peg) (b a e : ℕ) → named_recovery g b a ≡ true → recovery_by b a ≡ Some e → e < g.N
-recovery_low g zero a e t p = let z : ◌≡◌ {A = ℕ} 0 1 = cc in absurd (omega arith)
+recovery_low g zero a e t p = cc
 recovery_low g (suc b) a e t p = let q : a ≡ e = cc in let l = ltb-true a g.N t in omega arith
 
 -- a throw names one of the labels
 named_throw : (g : Peg) (e k a b c l : ℕ) → named_kind g e k a b c ≡ true → of_kind k a b c ≡ Throw l → (1 ≤ l) × (l ≤ g.L)
-named_throw g e zero a b c l t p = let z : ◌≡◌ {A = ℕ} 0 1 = cc in absurd (omega arith)
-named_throw g e (suc zero) a b c l t p = let z : ◌≡◌ {A = ℕ} 0 1 = cc in absurd (omega arith)
-named_throw g e (suc (suc zero)) a b c l t p = let z : ◌≡◌ {A = ℕ} 0 1 = cc in absurd (omega arith)
-named_throw g e (suc (suc (suc zero))) a b c l t p = let z : ◌≡◌ {A = ℕ} 0 1 = cc in absurd (omega arith)
-named_throw g e (suc (suc (suc (suc zero)))) a b c l t p = let z : ◌≡◌ {A = ℕ} 0 1 = cc in absurd (omega arith)
-named_throw g e (suc (suc (suc (suc (suc zero))))) a b c l t p = let z : ◌≡◌ {A = ℕ} 0 1 = cc in absurd (omega arith)
-named_throw g e (suc (suc (suc (suc (suc (suc zero)))))) a b c l t p = let z : ◌≡◌ {A = ℕ} 0 1 = cc in absurd (omega arith)
+named_throw g e zero a b c l t p = cc
+named_throw g e (suc zero) a b c l t p = cc
+named_throw g e (suc (suc zero)) a b c l t p = cc
+named_throw g e (suc (suc (suc zero))) a b c l t p = cc
+named_throw g e (suc (suc (suc (suc zero)))) a b c l t p = cc
+named_throw g e (suc (suc (suc (suc (suc zero))))) a b c l t p = cc
+named_throw g e (suc (suc (suc (suc (suc (suc zero)))))) a b c l t p = cc
 named_throw g e (suc (suc (suc (suc (suc (suc (suc n))))))) a b c l t p =
     let q : a ≡ l = cc in
     let h = and_parts (leb 1 a) (leb a g.L) t in
@@ -73,14 +74,14 @@ named_throw g e (suc (suc (suc (suc (suc (suc (suc n))))))) a b c l t p =
 
 -- a terminal's mark is one of 32
 formed_terminal : (k a b c x y d : ℕ) → formed_kind k a b c ≡ true → of_kind k a b c ≡ Terminal x y d → d ≤ highest_mark
-formed_terminal zero a b c x y d t p = let z : ◌≡◌ {A = ℕ} 0 1 = cc in absurd (omega arith)
+formed_terminal zero a b c x y d t p = cc
 formed_terminal (suc zero) a b c x y d t p = let q : c ≡ d = cc in let h = leb-true c highest_mark t in omega arith
-formed_terminal (suc (suc zero)) a b c x y d t p = let z : ◌≡◌ {A = ℕ} 0 1 = cc in absurd (omega arith)
-formed_terminal (suc (suc (suc zero))) a b c x y d t p = let z : ◌≡◌ {A = ℕ} 0 1 = cc in absurd (omega arith)
-formed_terminal (suc (suc (suc (suc zero)))) a b c x y d t p = let z : ◌≡◌ {A = ℕ} 0 1 = cc in absurd (omega arith)
-formed_terminal (suc (suc (suc (suc (suc zero))))) a b c x y d t p = let z : ◌≡◌ {A = ℕ} 0 1 = cc in absurd (omega arith)
-formed_terminal (suc (suc (suc (suc (suc (suc zero)))))) a b c x y d t p = let z : ◌≡◌ {A = ℕ} 0 1 = cc in absurd (omega arith)
-formed_terminal (suc (suc (suc (suc (suc (suc (suc n))))))) a b c x y d t p = let z : ◌≡◌ {A = ℕ} 0 1 = cc in absurd (omega arith)
+formed_terminal (suc (suc zero)) a b c x y d t p = cc
+formed_terminal (suc (suc (suc zero))) a b c x y d t p = cc
+formed_terminal (suc (suc (suc (suc zero)))) a b c x y d t p = cc
+formed_terminal (suc (suc (suc (suc (suc zero))))) a b c x y d t p = cc
+formed_terminal (suc (suc (suc (suc (suc (suc zero)))))) a b c x y d t p = cc
+formed_terminal (suc (suc (suc (suc (suc (suc (suc n))))))) a b c x y d t p = cc
 
 module _ (ws : List ℕ) (pass : ReferencesPass ws) where
   formed_so : (w : ℕ) → w < length ws → formed ws w ≡ true
@@ -143,6 +144,13 @@ module _ (ws : List ℕ) (pass : ReferencesPass ws) where
 
   pub whole : Whole (meaning ws)
   whole = (bodies, expressions)
+
+-- so it is of a row that passes questions 1 to 4
+pub row_passes : (row : WholeRow) → ReferencesPass row.words.now
+row_passes row = ((row.counted, row.headed, row.formed), row.named)
+
+pub row_whole : (row : WholeRow) → Whole (meaning row.words.now)
+row_whole row = whole row.words.now (row_passes row)
 
 -- what an accepted row means, in the words of the rules
 module _ (ws : List ℕ) (accepted : Accepted ws) where

@@ -12,7 +12,7 @@ use Rattle.grammar.specs.declared.fault.ReferenceFault.TheVariants.{Words as ofW
 use Rattle.grammar.specs.declared.fault.WordFault.TheVariants.{Count, Header, Word}
 use Rattle.grammar.specs.Words.{meaning}
 use Rattle.grammar.specs.Faults.{Report, right, wrong, work_report, form_report}
-use Rattle.grammar.specs.Questions.{Asks, AsksForm, Lowest, NoMore, Reported, Accepted, WorkPasses, WorkFails, FormPasses, FormFails, fault_left}
+use Rattle.grammar.specs.Questions.{Asks, AsksForm, Lowest, NoMore, Reported, Accepted, WorkPasses, FormPasses, FormFails, fault_left}
 use Rattle.grammar.specs.Marks.{Mask, Judged}
 
 -- there is one lowest word
@@ -39,10 +39,6 @@ none_left More t h = absurd h
 module _ (ws : List ℕ) (n : ℕ) where
   reported_one : (s t : Report) → Reported ws n s → Reported ws n t → s ≡ t
   reported_one = asks_one _ _ _ _ (asks_one _ _ _ _ (asks_one _ _ _ _ (asks_one _ _ _ _ (asks_one _ _ _ _ (asks_one _ _ _ _ (asks_one _ _ _ _ (λ s t a b. a ∙ sym b)))))))
-
-  -- a fault of the lower layers is the check's report
-  pub lower_reported : (t : Report) → WorkFails ws n t → Reported ws n t
-  lower_reported = asks_on _ _ _ _ _ (asks_on _ _ _ _ _ (asks_on _ _ _ _ _ (asks_on _ _ _ _ _ (asks_on _ _ _ _ _ (none_left _)))))
 
   -- past the lower layers, the form's report is the check's
   past_lower : (t : Report) → WorkPasses ws n → AsksForm ws (λ u. u ≡ right) t → Reported ws n t
@@ -72,13 +68,13 @@ module _ (ws : List ℕ) (n : ℕ) where
   exactly s r t = (λ e. subst (Reported ws n) e r, λ q. reported_one s t r q)
 
   wrong_report : (f : FormFault) → form_report f ≡ right → ⊥
-  wrong_report (ofWork (ofReferences (ofWords Count))) e = let z : ◌≡◌ {A = ℕ} 0 1 = cc in omega arith
-  wrong_report (ofWork (ofReferences (ofWords Header))) e = let z : ◌≡◌ {A = ℕ} 0 1 = cc in omega arith
-  wrong_report (ofWork (ofReferences (ofWords (Word w)))) e = let z : ◌≡◌ {A = ℕ} 0 1 = cc in omega arith
-  wrong_report (ofWork (ofReferences (Missing w))) e = let z : ◌≡◌ {A = ℕ} 0 1 = cc in omega arith
-  wrong_report (ofWork Short) e = let z : ◌≡◌ {A = ℕ} 0 1 = cc in omega arith
-  wrong_report (EmptyRepetition w) e = let z : ◌≡◌ {A = ℕ} 0 1 = cc in omega arith
-  wrong_report (EndlessWalk w) e = let z : ◌≡◌ {A = ℕ} 0 1 = cc in omega arith
+  wrong_report (ofWork (ofReferences (ofWords Count))) e = cc
+  wrong_report (ofWork (ofReferences (ofWords Header))) e = cc
+  wrong_report (ofWork (ofReferences (ofWords (Word w)))) e = cc
+  wrong_report (ofWork (ofReferences (Missing w))) e = cc
+  wrong_report (ofWork Short) e = cc
+  wrong_report (EmptyRepetition w) e = cc
+  wrong_report (EndlessWalk w) e = cc
 
   pub refused : (f : FormFault) → Reported ws n (form_report f) → (false ≡ true) ↔ (Accepted ws × (2 * (meaning ws).N ≤ n))
   refused f r = (

@@ -15,7 +15,7 @@ use Rattle.grammar.specs.Marks.{Marks, may, may_recovery, ends, ends_recovery, d
 
 recovers_on : (g : Peg) (l e : ℕ) (m : Mode) → recovers_lem g l m ≡ Some e → g.recovery l ≡ Some e
 recovers_on g l e On p = p
-recovers_on g l e Off p = let z : ◌≡◌ {A = ℕ} 0 1 = cc in absurd (omega arith)
+recovers_on g l e Off p = cc
 
 module _ (g : Peg) (whole : Whole g) where
   -- a leading part is an expression of the grammar
@@ -31,12 +31,12 @@ module _ (g : Peg) (whole : Whole g) where
 
   module _ (s : Marks) where
     may_recovery_holds : Backed g s MayMatchNothing → (l : ℕ) (m : Mode) → Refers g (Throw l) → (o : Option ℕ) → recovers_lem g l m ≡ o → may_recovery s o ≡ true → Nullable g m (Throw l)
-    may_recovery_holds b l m h None p t = let z : ◌≡◌ {A = ℕ} 0 1 = cc in absurd (omega arith)
+    may_recovery_holds b l m h None p t = cc
     may_recovery_holds b l m h (Some e) p t = by_recovery p (b e On (h e (recovers_on g l e m p)) t)
 
     may_holds : Backed g s MayMatchNothing → (x : Expr) (m : Mode) → Refers g x → may g s x m ≡ true → Nullable g m x
     may_holds b Empty m h t = by_empty
-    may_holds b (Terminal a c k) m h t = let z : ◌≡◌ {A = ℕ} 0 1 = cc in absurd (omega arith)
+    may_holds b (Terminal a c k) m h t = cc
     may_holds b (Call r) m h t = by_call (b (g.body r) m (whole.0 r h) t)
     may_holds b (Sequence a c) m h t =
         let p = and_parts (s MayMatchNothing a m) (s MayMatchNothing c m) t in
@@ -90,12 +90,12 @@ module _ (g : Peg) (whole : Whole g) where
     Onward x m = (e : ℕ) × (m' : Mode) × Leads g x m e m' × (s WalksEnd e m' ≡ false)
 
     onward_recovery : (l : ℕ) (m : Mode) (o : Option ℕ) → recovers_lem g l m ≡ o → ends_recovery s o ≡ false → Onward (Throw l) m
-    onward_recovery l m None p t = let z : ◌≡◌ {A = ℕ} 0 1 = cc in absurd (omega arith)
+    onward_recovery l m None p t = cc
     onward_recovery l m (Some e) p t = (e, On, to_recovery p, t)
 
     onward : Right g s → (x : Expr) (m : Mode) → Refers g x → ends g s x m ≡ false → Onward x m
-    onward r Empty m h t = let z : ◌≡◌ {A = ℕ} 0 1 = cc in absurd (omega arith)
-    onward r (Terminal a c k) m h t = let z : ◌≡◌ {A = ℕ} 0 1 = cc in absurd (omega arith)
+    onward r Empty m h t = cc
+    onward r (Terminal a c k) m h t = cc
     onward r (Call p) m h t = (g.body p, m, to_body, t)
     onward r (Sequence a b) m h t = elim (and_cases (s WalksEnd a m) _ t) [
       | inl p ↦ (a, m, to_first, p)

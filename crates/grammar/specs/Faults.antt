@@ -1,7 +1,8 @@
--- What a check reports: nothing wrong, or a number with its layer and word; and the report of each fault.
-use Rattle.std.specs.Prelude.{ℕ, Ok, Err, Result}
+-- What a check reports: nothing wrong, or a number with its layer and word; the report of each fault, and how a place is written.
+use Rattle.std.specs.Prelude.{ℕ, List, ◌++◌, Ok, Err, Result, codes, decimal}
 use Rattle.grammar.specs.declared.fault.Layer.{Layer}
 use Rattle.grammar.specs.declared.fault.Layer.TheVariants.{Words, References, Work, Form}
+use Rattle.grammar.specs.declared.fault.Place.{Place}
 use Rattle.grammar.specs.declared.fault.WordFault.{WordFault}
 use Rattle.grammar.specs.declared.fault.WordFault.TheVariants.{Count, Header, Word}
 use Rattle.grammar.specs.declared.fault.ReferenceFault.{ReferenceFault}
@@ -37,3 +38,13 @@ form_report (EndlessWalk w) = wrong 7 Form w
 abbrev pub report : {A : Type 0} → Result A FormFault → Report
 report (Ok x) = right
 report (Err f) = form_report f
+
+abbrev pub layer_name : Layer → List ℕ
+layer_name Words = codes "words"
+layer_name References = codes "references"
+layer_name Work = codes "work"
+layer_name Form = codes "form"
+
+-- how a place is written
+abbrev pub place_text : Place → List ℕ
+place_text p = codes "refused " ++ (decimal p.number ++ (codes " layer " ++ (layer_name p.layer ++ (codes " word " ++ decimal p.word))))

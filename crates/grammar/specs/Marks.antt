@@ -20,6 +20,11 @@ abbrev pub mode_bit : Mode → ℕ
 mode_bit On = 0
 mode_bit Off = 1
 
+-- the mode of a number: 0 is mode on, and every other one mode off
+abbrev pub bit_mode : ℕ → Mode
+bit_mode zero = On
+bit_mode (suc n) = Off
+
 abbrev pub other : Fact → Fact
 other MayMatchNothing = WalksEnd
 other WalksEnd = MayMatchNothing

@@ -1,7 +1,8 @@
 //! An accepted grammar, and the check by which a row of words becomes one.
-ghost use Rattle.std.specs.Prelude.{◌≡◌, ℕ, ◌*◌, ◌<◌, ◌≤◌, true, false, ◌↔◌, [], ◌∷◌, length, is_ok, MatchResult};
+ghost use Rattle.std.specs.Prelude.{◌≡◌, ℕ, ◌*◌, ◌<◌, ◌≤◌, true, false, ◌↔◌, [], ◌∷◌, length, is_ok, IfOk};
 ghost use Rattle.grammar.specs.declared.expr.Mode.TheVariants.{On, Off};
 ghost use Rattle.grammar.specs.Words.{meaning};
+ghost use Rattle.grammar.specs.Form.{recovers_lem};
 ghost use Rattle.grammar.specs.Faults.{Report, report};
 ghost use Rattle.grammar.specs.Questions.{Accepted, Counted, Headed, Never, Misformed, Misnamed, Hollow, Unending, Reported, Tells, work_left};
 ghost use Rattle.grammar.specs.Marks.{Mask, Judged, NullableRule};
@@ -12,7 +13,8 @@ use crate::form::check_form;
 use crate::marks::clear;
 use crate::references::check_work;
 use crate::row::{
-    body_of, catches_in, expr_of, expressions_of, labels_of, recovery_of, rules_of, sets_of,
+    body_of, catches_in, expr_of, expressions_of, labels_of, recovers_in, recovery_of, rules_of,
+    sets_of,
 };
 
 /// The smallest grammar: one rule, whose body is the empty expression.
@@ -41,37 +43,28 @@ pub struct Grammar<'a> {
 fn judge(words: &[u32], work: &mut [u32]) -> Result<(u64, u64), FormFault>
     ensures { Judged words.now work.old work.new result }
 {
-    check_work(words, work.len())?;
+    let row = check_work(words, work.len())?;
     clear(work);
-    let verdict = check_form(words, work);
+    let verdict = check_form(&row, work);
     clear(work);
     verdict
 }
 
-/// Checks a row of words, and on success makes the grammar that of the row.
+/// Checks a row of words, and on success gives the grammar of the row.
 ///
 /// The work words stay as they are where the fault is not of the grammar's form, and are all zero otherwise.
-pub fn check<'a>(
-    words: &'a [u32],
-    work: &mut [u32],
-    grammar: &mut Grammar<'a>,
-) -> Result<(), FormFault>
+pub fn check<'a>(words: &'a [u32], work: &mut [u32]) -> Result<Grammar<'a>, FormFault>
     ensures answers { (t : Report) → (report result ≡ t) ↔ Reported words.now (length work.old) t }
     ensures accepts { (is_ok result ≡ true) ↔ (Accepted words.now × (2 * (meaning words.now).N ≤ length work.old)) }
     ensures work { work.new ≡ work_left result work.old }
-    ensures grammar { MatchResult result (λ _. grammar.new.words.now ≡ words.now) (λ _. grammar.new ≡ grammar.old) }
+    ensures grammar { IfOk result (λ g. g.words.now ≡ words.now) }
 {
-    match judge(words, work) {
-        Ok((on, off)) => {
-            *grammar = Grammar { words, on, off };
-            Ok(())
-        }
-        Err(fault) => Err(fault),
-    }
+    let (on, off) = judge(words, work)?;
+    Ok(Grammar { words, on, off })
 }
 
 impl<'a> Grammar<'a> {
-    /// The smallest grammar: it matches nothing, everywhere. A check replaces it.
+    /// The smallest grammar: it matches nothing, everywhere.
     pub fn smallest() -> Grammar<'a>
         ensures { result.words.now ≡ 0x80040100 ∷ 0x90000000 ∷ 0 ∷ [] }
     {
@@ -129,6 +122,13 @@ impl<'a> Grammar<'a> {
         ensures { result ≡ (meaning self.now.words.now).recovery label }
     {
         recovery_of(self.words, label)
+    }
+
+    /// The recovery expression of a throw of a label: only in mode on, and only if the label has one.
+    pub fn recovers(&self, label: usize, mode: Mode) -> Option<usize>
+        ensures { result ≡ recovers_lem (meaning self.now.words.now) label mode }
+    {
+        recovers_in(self.words, label, mode)
     }
 
     /// Whether a set holds a label; an answer without meaning beyond the last set, or above label 27.

@@ -1,9 +1,11 @@
 //! What is wrong with a row of words, layer by layer: a layer's fault keeps that of the layer below unchanged.
-ghost use Rattle.std.specs.Prelude.{◌≡◌};
-ghost use Rattle.grammar.specs.Faults.{wrong, word_report, reference_report, work_report, form_report};
+ghost use Rattle.std.specs.Prelude.{◌≡◌, Some};
+ghost use Rattle.grammar.specs.Faults.{wrong, word_report, reference_report, work_report, form_report, layer_name, place_text};
 ghost use Rattle.grammar.specs.declared.fault.FormFault.TheVariants.{Work as ofWork};
 ghost use Rattle.grammar.specs.declared.fault.ReferenceFault.TheVariants.{Words as ofWords};
 ghost use Rattle.grammar.specs.declared.fault.WorkFault.TheVariants.{References as ofReferences};
+
+use std::fmt;
 
 /// The four layers of the check, in the order in which they ask.
 #[derive(Clone, Copy, PartialEq, Eq, Debug)]
@@ -20,6 +22,31 @@ pub struct Place {
     pub number: u8,
     pub layer: Layer,
     pub word: usize,
+}
+
+impl fmt::Display for Layer {
+    ghost output = { λ l. Some (layer_name l) };
+
+    fn fmt<W: fmt::Write>(&self, f: &mut fmt::Formatter<W>) -> fmt::Result {
+        f.write_str(match self {
+            Layer::Words => "words",
+            Layer::References => "references",
+            Layer::Work => "work",
+            Layer::Form => "form",
+        })
+    }
+}
+
+impl fmt::Display for Place {
+    ghost output = { λ p. Some (place_text p) };
+
+    fn fmt<W: fmt::Write>(&self, f: &mut fmt::Formatter<W>) -> fmt::Result {
+        write!(
+            f,
+            "refused {} layer {} word {}",
+            self.number, self.layer, self.word
+        )
+    }
 }
 
 /// The words by themselves.
@@ -59,6 +86,7 @@ pub enum FormFault {
     EndlessWalk { word: usize },
 }
 
+// Each `From` is written by hand: clauses say which fault a `?` makes, and a derived one has no contract.
 impl From<WordFault> for ReferenceFault {
     ghost from_gives = { λ f r. r ≡ ofWords f };
 
@@ -94,6 +122,7 @@ fn at(number: u8, layer: Layer, word: usize) -> Place
     }
 }
 
+// A fault is asked for its place, layer by layer; a `From` for `Place` would read no plainer at its calls than `fault.place()`.
 impl WordFault {
     /// The number, layer and word of the fault.
     fn place(self) -> Place

@@ -9,5 +9,6 @@ mod marks;
 mod part;
 mod references;
 mod row;
+pub mod site;
 mod word;
 mod words;

@@ -1,9 +1,10 @@
 //! Reads any row of words as a grammar, whether it is one or not.
 ghost use Rattle.std.specs.Prelude.{◌≡◌, ℕ, ◌+◌, ◌-◌, ◌^◌, ◌<◌, ◌≤◌, length, slice_index};
 ghost use Rattle.grammar.specs.Words.{meaning};
+ghost use Rattle.grammar.specs.Form.{recovers_lem};
 ghost use Rattle.grammar.specs.Questions.{part_of};
 
-use crate::expr::Expr;
+use crate::expr::{Expr, Mode};
 use crate::part::Part;
 use crate::word::{a_of, b_of, c_of, expression_of, holds};
 
@@ -11,11 +12,8 @@ use crate::word::{a_of, b_of, c_of, expression_of, holds};
 pub(crate) fn word_at(words: &[u32], base: usize, offset: usize) -> u32
     ensures { result ≡ slice_index words.now (base + offset) }
 {
-    if base < words.len() && offset < words.len() - base {
-        words[base + offset]
-    } else {
-        0
-    }
+    let word = base.checked_add(offset).and_then(|at| words.get(at));
+    word.copied().unwrap_or(0)
 }
 
 /// N, the number of expressions.
@@ -65,6 +63,16 @@ pub(crate) fn recovery_of(words: &[u32], label: usize) -> Option<usize>
         None
     } else {
         Some(a_of(word) as usize)
+    }
+}
+
+/// The recovery expression of a throw, which only mode on has.
+pub(crate) fn recovers_in(words: &[u32], label: usize, mode: Mode) -> Option<usize>
+    ensures { result ≡ recovers_lem (meaning words.now) label mode }
+{
+    match mode {
+        Mode::On => recovery_of(words, label),
+        Mode::Off => None,
     }
 }
 

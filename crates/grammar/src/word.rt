@@ -1,14 +1,48 @@
 //! The fields of one word, by shift and mask.
-ghost use Rattle.std.specs.Prelude.{◌≡◌, ℕ, ◌^◌, ◌<◌};
+ghost use Rattle.std.specs.Prelude.{◌≡◌, ℕ, ◌^◌, ◌<◌, ◌≤◌, MatchOption};
 ghost use Rattle.grammar.specs.Words.{kind, field_a, field_b, field_c, bit, expression};
+ghost use Rattle.grammar.specs.Kinds.{kinds, kind_number};
 
 use crate::expr::Expr;
 
-/// Bits 31 to 28.
-pub(crate) fn kind_of(word: u32) -> u32
-    ensures { result ≡ kind word }
-{
-    word >> 28
+/// What a word is, by its bits 31 to 28: one of the eight kinds of expression, or another part of the row.
+#[derive(Clone, Copy, PartialEq, Eq, Debug)]
+pub(crate) enum Kind {
+    Empty,
+    Terminal,
+    Call,
+    Sequence,
+    Choice,
+    Repetition,
+    Predicate,
+    Throw,
+    Header,
+    Rule,
+    Label,
+    Set,
+}
+
+impl Kind {
+    /// The kind of a word; none, where its bits are no kind's.
+    pub(crate) fn of(word: u32) -> Option<Kind>
+        ensures { MatchOption result (kinds ≤ kind word) (λ k. kind word ≡ kind_number k) }
+    {
+        match word >> 28 {
+            0 => Some(Kind::Empty),
+            1 => Some(Kind::Terminal),
+            2 => Some(Kind::Call),
+            3 => Some(Kind::Sequence),
+            4 => Some(Kind::Choice),
+            5 => Some(Kind::Repetition),
+            6 => Some(Kind::Predicate),
+            7 => Some(Kind::Throw),
+            8 => Some(Kind::Header),
+            9 => Some(Kind::Rule),
+            10 => Some(Kind::Label),
+            11 => Some(Kind::Set),
+            _ => None,
+        }
+    }
 }
 
 /// Bits 27 to 18.
@@ -46,21 +80,21 @@ pub(crate) fn expression_of(word: u32) -> Expr
     let a = a_of(word);
     let b = b_of(word);
     let c = c_of(word);
-    match kind_of(word) {
-        0 => Expr::Empty,
-        1 => Expr::Terminal { a, b, mark: c },
-        2 => Expr::Call { rule: a as usize },
-        3 => Expr::Sequence {
+    match Kind::of(word) {
+        Some(Kind::Empty) => Expr::Empty,
+        Some(Kind::Terminal) => Expr::Terminal { a, b, mark: c },
+        Some(Kind::Call) => Expr::Call { rule: a as usize },
+        Some(Kind::Sequence) => Expr::Sequence {
             first: a as usize,
             second: b as usize,
         },
-        4 => Expr::Choice {
+        Some(Kind::Choice) => Expr::Choice {
             first: a as usize,
             second: b as usize,
             set: c as usize,
         },
-        5 => Expr::Repetition { part: a as usize },
-        6 => Expr::Predicate { part: a as usize },
+        Some(Kind::Repetition) => Expr::Repetition { part: a as usize },
+        Some(Kind::Predicate) => Expr::Predicate { part: a as usize },
         _ => Expr::Throw { label: a as usize },
     }
 }

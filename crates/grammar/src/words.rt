@@ -7,7 +7,7 @@ ghost use Rattle.grammar.specs.Faults.{word_report};
 use crate::fault::WordFault;
 use crate::part::Part;
 use crate::row::{expressions_of, labels_of, part_at, rules_of};
-use crate::word::{a_of, b_of, c_of, kind_of};
+use crate::word::{Kind, a_of, b_of, c_of};
 
 pub const FEWEST_WORDS: usize = 3;
 
@@ -23,15 +23,6 @@ pub const MOST_SETS: usize = 64;
 
 pub const HIGHEST_MARK: u32 = 31;
 
-/// The kinds of the words that are no expressions.
-const HEADER: u32 = 8;
-
-const RULE: u32 = 9;
-
-const LABEL: u32 = 10;
-
-const SET: u32 = 11;
-
 /// Whether the first word is a header whose numbers leave a right number of sets.
 fn is_headed(words: &[u32]) -> bool
     requires { 0 < length words.now }
@@ -41,14 +32,11 @@ fn is_headed(words: &[u32]) -> bool
     let r = rules_of(words);
     let l = labels_of(words);
     let least = 1 + r + l + n;
-    kind_of(words[0]) == HEADER
-        && 1 <= n
-        && n <= MOST_EXPRESSIONS
-        && 1 <= r
-        && r <= MOST_RULES
+    Kind::of(words[0]) == Some(Kind::Header)
+        && (1..=MOST_EXPRESSIONS).contains(&n)
+        && (1..=MOST_RULES).contains(&r)
         && l <= MOST_LABELS
-        && least <= words.len()
-        && words.len() <= least + MOST_SETS
+        && (least..=least + MOST_SETS).contains(&words.len())
 }
 
 /// Whether an expression's fields without a meaning are zero, and its mark in range.
@@ -58,15 +46,12 @@ fn expression_formed(word: u32) -> bool
     let a = a_of(word);
     let b = b_of(word);
     let c = c_of(word);
-    match kind_of(word) {
-        0 => a == 0 && b == 0 && c == 0,
-        1 => c <= HIGHEST_MARK,
-        2 => b == 0 && c == 0,
-        3 => c == 0,
-        4 => true,
-        5 => b == 0 && c == 0,
-        6 => b == 0 && c == 0,
-        7 => b == 0 && c == 0,
+    match Kind::of(word) {
+        Some(Kind::Empty) => a == 0 && b == 0 && c == 0,
+        Some(Kind::Terminal) => c <= HIGHEST_MARK,
+        Some(Kind::Sequence) => c == 0,
+        Some(Kind::Choice) => true,
+        Some(Kind::Call | Kind::Repetition | Kind::Predicate | Kind::Throw) => b == 0 && c == 0,
         _ => false,
     }
 }
@@ -89,9 +74,10 @@ fn word_formed(part: Part, labels: usize, word: u32) -> bool
 {
     match part {
         Part::Header => true,
-        Part::Rule => kind_of(word) == RULE && b_of(word) == 0 && c_of(word) == 0,
-        Part::Label => kind_of(word) == LABEL && c_of(word) == 0 && label_formed(word),
-        Part::Set => kind_of(word) == SET && (word & 0x0fff_ffff) < (1 << (labels + 1)),
+        Part::Rule => Kind::of(word) == Some(Kind::Rule) && b_of(word) == 0 && c_of(word) == 0,
+        Part::Label => Kind::of(word) == Some(Kind::Label) && c_of(word) == 0 && label_formed(word),
+        Part::Set => Kind::of(word) == Some(Kind::Set)
+            && (word & 0x0fff_ffff) < (1 << (labels + 1)),
         Part::Expression { number: _ } => expression_formed(word),
     }
 }
@@ -100,15 +86,15 @@ fn word_formed(part: Part, labels: usize, word: u32) -> bool
 pub(crate) fn check_words(words: &[u32]) -> Result<(), WordFault>
     ensures { MatchResult result (λ _. WordsPass words.now) (λ f. WordsFail words.now (word_report f)) }
 {
-    if words.len() < FEWEST_WORDS || words.len() > MOST_WORDS {
+    if !(FEWEST_WORDS..=MOST_WORDS).contains(&words.len()) {
         return Err(WordFault::Count);
     }
     if !is_headed(words) {
         return Err(WordFault::Header);
     }
     let labels = labels_of(words);
-    for place in 0..words.len() {
-        if !word_formed(part_at(words, place), labels, words[place]) {
+    for (place, word) in words.iter().enumerate() {
+        if !word_formed(part_at(words, place), labels, *word) {
             return Err(WordFault::Word { word: place });
         }
     }

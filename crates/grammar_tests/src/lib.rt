@@ -1,18 +1,14 @@
 //! Examples at the edges of each question of the grammar check.
 #![tactic(auto)]
 
-use grammar::accepted::{Grammar, check};
-use grammar::fault::Place;
+use grammar::accepted::check;
+use grammar::fault::{FormFault, Place};
 use std::alloc::{AllocError, Global};
 
 /// Where the check of a row finds a fault, with so many work words lent.
 pub fn fault(heap: Global, words: &[u32], lent: usize) -> Result<Option<Place>, AllocError> {
     let mut work = vec![in heap; 7u32; lent]?;
-    let mut grammar = Grammar::smallest();
-    match check(words, &mut work, &mut grammar) {
-        Ok(()) => Ok(None),
-        Err(fault) => Ok(Some(fault.place())),
-    }
+    Ok(check(words, &mut work).err().map(FormFault::place))
 }
 
 /// A row of so many rules, labels, sets and empty expressions, well formed where the numbers are.

@@ -4,4 +4,4 @@ use Rattle.grammar.specs.Marks.{FaultAt}
 use Rattle.grammar.proofs.form.lowest_fault.Given as goal
 
 abbrev pub invariant-loop-number : goal.invariant-loop-number
-invariant-loop-number l = (k : ℕ) → k < l.number → FaultAt (meaning l.words) l.fact k → ⊥
+invariant-loop-number l = (k : ℕ) → k < l.number → FaultAt (meaning l.row.words.now) l.fact k → ⊥

@@ -5,4 +5,4 @@ use Rattle.grammar.proofs.Finding.{BitsBelow}
 use Rattle.grammar.proofs.form.nullable_rules.Given as goal
 
 abbrev pub invariant-loop-rule : goal.invariant-loop-rule
-invariant-loop-rule l = BitsBelow (λ r. mark l.work MayMatchNothing ((meaning l.words).body r) l.mode) l.mask l.rule
+invariant-loop-rule l = BitsBelow (λ r. mark l.work MayMatchNothing ((meaning l.row.words.now).body r) l.mode) l.mask l.rule

@@ -6,5 +6,5 @@ use Rattle.grammar.proofs.form.pass.Given as goal
 
 abbrev pub invariant-loop-number : goal.invariant-loop-number
 invariant-loop-number l =
-    Grew (meaning l.words) l.initial.work l.work l.fact l.grown
-    × (l.grown ≡ false → (e : ℕ) (m : Mode) → e < l.number → Tried (meaning l.words) (mark l.work) l.fact e m)
+    Grew (meaning l.row.words.now) l.initial.work l.work l.fact l.grown
+    × (l.grown ≡ false → (e : ℕ) (m : Mode) → e < l.number → Tried (meaning l.row.words.now) (mark l.work) l.fact e m)

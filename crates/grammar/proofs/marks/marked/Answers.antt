@@ -9,6 +9,6 @@ unfolding mark
 returns c =
     let short : length c.args.work.now < 2 ^ 64 = omega arith in
     let second : c.saturating_add-second.result ≡ min (c.args.number + mode_bit c.args.mode) (2 ^ 64 - 1) =
-    c.saturating_add-second.ensures ∙ ap (λ (b : ℕ). min (c.args.number + b) (2 ^ 64 - 1)) c.half_of.ensures in
+    c.saturating_add-second.ensures ∙ ap (λ (b : ℕ). min (c.args.number + b) (2 ^ 64 - 1)) (c.from-2.ensures ∙ c.from.ensures) in
     c.holds.ensures
-    ∙ ap₂ bit (c.word_at.ensures ∙ word_there c.args.work.now c.args.number (mode_bit c.args.mode) _ short second) c.bit_of.ensures
+    ∙ ap₂ bit (c.word_at.ensures ∙ word_there c.args.work.now c.args.number (mode_bit c.args.mode) _ short second) c.from-3.ensures

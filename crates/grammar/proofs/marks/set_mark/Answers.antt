@@ -8,5 +8,5 @@ pub returns : goal.returns
 returns c =
     let low = fact_low c.args.fact in
     let lt : fact_bit c.args.fact < 32 = omega arith in
-    rw (c.half_of.ensures, c.bit_of.ensures, one_shl (fact_bit c.args.fact) 32 lt)
+    rw (c.from-2.ensures, c.from.ensures, c.from-3.ensures, one_shl (fact_bit c.args.fact) 32 lt)
     (set_marked c.args.work.now c.args.fact c.args.number c.args.mode c.requires)
