@@ -1,5 +1,5 @@
 -- The first piece of a text, by where its first separator stands.
-use Rattle.std.proofs.Common.{◌≡◌, ℕ, zero, suc, ◌<◌, ◌≤◌, Bool, true, false, cond, eqb, List, [], ◌∷◌, ◌++◌, length, get_or, take, drop, Some, None, sym, refl, ap, ◌∙◌, arith}
+use Rattle.std.proofs.Common.{◌≡◌, ℕ, zero, suc, ◌<◌, ◌≤◌, Bool, true, false, cond, eqb, List, [], ◌∷◌, ◌++◌, length, get_or, take, drop, Some, sym, refl, ap, ◌∙◌, arith}
 use Rattle.std.proofs.lemmas.Bool.{eq-eqb, ne_eqb, cond-true, cond-false}
 use Rattle.rowtext.specs.Pieces.{onto, pieces, first, after, cut}
 
@@ -59,10 +59,6 @@ cut_at s bs n low clear here =
 pub cut_all : (s : ℕ) (bs : List ℕ) → 0 < length bs → Clear s bs (length bs) → Some (bs, []) ≡ cut s bs
 cut_all s bs some clear = let p = parts_all s bs clear in sym (cut_parts s bs some ∙ (λ i. Some (p.0 i, p.1 i)))
 
-pub cut_none : (s : ℕ) (bs : List ℕ) → length bs ≡ 0 → (None ≡ cut s bs) × (pieces s bs ≡ [])
-cut_none s [] none = (refl, refl)
-cut_none s (b ∷ bs) none = absurd (omega arith)
-
 pieces_by : (t : Bool) (s b : ℕ) (bs : List ℕ) → onto b (pieces s bs) ≡ (b ∷ first s bs) ∷ pieces s (after s bs)
     → cond t ([] ∷ pieces s bs) (onto b (pieces s bs)) ≡ cond t [] (b ∷ first s bs) ∷ pieces s (cond t bs (after s bs))
 pieces_by true s b bs e = refl
@@ -82,7 +78,7 @@ after_short s (b ∷ bs) = omega (arith, after_by (eqb b s) s bs (after_short s 
 
 -- what follows the first piece has the other pieces, and is shorter
 pub cut_goes_on : (s : ℕ) (bs p q : List ℕ) → Some (p, q) ≡ cut s bs → (pieces s bs ≡ p ∷ pieces s q) × (length q < length bs)
-cut_goes_on s [] p q e = let z : ◌≡◌ {A = ℕ} 0 1 = cc in absurd (omega arith)
+cut_goes_on s [] p q e = cc
 cut_goes_on s (b ∷ bs) p q e =
     let same : ◌≡◌ {A = List ℕ × List ℕ} (p, q) (first s (b ∷ bs), after s (b ∷ bs)) = cc in
     let back = ap (λ x. x.1) same in

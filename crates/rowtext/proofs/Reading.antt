@@ -30,35 +30,12 @@ row line = words (pieces space line)
 abbrev pub row_after : List ℕ → List ℕ → Option (List ℕ)
 row_after ws left = option_map (λ us. ws ++ us) (row left)
 
-mapped_same : (o : Option (List ℕ)) → option_map (λ us. us) o ≡ o
-mapped_same None = refl
-mapped_same (Some us) = refl
-
-pub none_yet : (ws line : List ℕ) → ws ≡ [] → row_after ws line ≡ row line
-none_yet ws line e = ap (λ vs. row_after vs line) e ∙ mapped_same (row line)
-
-words_skip : (p : List ℕ) (ps : List (List ℕ)) → length p ≡ 0 → words (p ∷ ps) ≡ words ps
-words_skip [] ps none = refl
-words_skip (b ∷ bs) ps none = absurd (omega arith)
-
 words_push : (p : List ℕ) (ps : List (List ℕ)) → 0 < length p → words (p ∷ ps) ≡ before (word p) (words ps)
 words_push [] ps some = absurd (omega arith)
 words_push (b ∷ bs) ps some = refl
 
-before_after : (ws : List ℕ) (w : ℕ) (o : Option (List ℕ)) → option_map (λ us. ws ++ us) (before (Some w) o) ≡ option_map (λ us. (ws ++ w ∷ []) ++ us) o
-before_after ws w None = refl
-before_after ws w (Some us) = ap (λ vs. Some vs) (sym (append_assoc ws (w ∷ []) us))
-
 -- what is left begins with a piece
 module _ (ws left piece next : List ℕ) (cut : pieces space left ≡ piece ∷ pieces space next) where
-  pub skip : length piece ≡ 0 → row_after ws next ≡ row_after ws left
-  skip none = sym (ap (λ o. option_map (λ us. ws ++ us) o) (ap words cut ∙ words_skip piece (pieces space next) none))
-
-  pub push : (w : ℕ) → 0 < length piece → Some w ≡ word piece → row_after (ws ++ w ∷ []) next ≡ row_after ws left
-  push w some e =
-      sym (ap (λ o. option_map (λ us. ws ++ us) o) (ap words cut ∙ words_push piece (pieces space next) some ∙ ap (λ o. before o (row next)) (sym e))
-      ∙ before_after ws w (row next))
-
   pub stop : 0 < length piece → None ≡ word piece → None ≡ row_after ws left
   stop some e = sym (ap (λ o. option_map (λ us. ws ++ us) o) (ap words cut ∙ words_push piece (pieces space next) some ∙ ap (λ o. before o (row next)) (sym e)))
 
@@ -79,8 +56,8 @@ prefixed_onto (t ∷ ts) b (p ∷ ps) = ap (λ q. q ∷ ps) (sym (append_assoc (
 
 -- where a word comes before other words, both are there
 before_parts : (o : Option ℕ) (us : Option (List ℕ)) (ws : List ℕ) → before o us ≡ Some ws → (w : ℕ) × (vs : List ℕ) × (o ≡ Some w) × (us ≡ Some vs) × (ws ≡ w ∷ vs)
-before_parts None us ws e = let z : ◌≡◌ {A = ℕ} 0 1 = cc in absurd (omega arith)
-before_parts (Some w) None ws e = let z : ◌≡◌ {A = ℕ} 0 1 = cc in absurd (omega arith)
+before_parts None us ws e = cc
+before_parts (Some w) None ws e = cc
 before_parts (Some w) (Some vs) ws e = (w, vs, refl, refl, cc)
 
 -- a word, and then what is left of the line
@@ -120,7 +97,7 @@ no_space (t ∷ ts) digits (suc k) low e = no_space ts (and_parts (ltb (digit_va
 
 some_test : (t : Bool) (x y : ℕ) → cond t (Some x) None ≡ Some y → t ≡ true
 some_test true x y e = refl
-some_test false x y e = let z : ◌≡◌ {A = ℕ} 0 1 = cc in absurd (omega arith)
+some_test false x y e = cc
 
 -- a word has digits, and no space among them
 word_clear : (text : List ℕ) (w : ℕ) → word text ≡ Some w → (0 < length text) × Clear space text (length text)
@@ -147,5 +124,5 @@ writes_one g h = let a = read_back g in let b = read_back h in cc
 
 -- what is read is the row of the line
 pub row_is : (line : List ℕ) (o : Option (List ℕ)) → o ≡ row line → RowOf line o
-row_is line None e = λ ws h. let back = read_back h in let z : ◌≡◌ {A = ℕ} 0 1 = cc in omega arith
+row_is line None e = λ ws h. let back = read_back h in cc
 row_is line (Some ws) e = let h = written_after line [] ws (sym e) in exact (Writes line) ws h (λ us. writes_one h)

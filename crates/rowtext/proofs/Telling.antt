@@ -1,10 +1,9 @@
 -- An account, line by line: the answers so far, and then those of what is left.
-use Rattle.std.proofs.Common.{◌≡◌, ℕ, ◌+◌, ◌<◌, ◌≤◌, Bool, true, false, cond, List, [], ◌∷◌, ◌++◌, length, codes, decimal, count_by, sym, refl, ap, ◌∙◌, subst, append_assoc, append-nil, add-zero, arith}
+use Rattle.std.proofs.Common.{◌≡◌, ℕ, ◌+◌, ◌<◌, ◌≤◌, Bool, true, false, cond, List, [], ◌∷◌, ◌++◌, length, None, codes, decimal, count_by, sym, refl, ap, ◌∙◌, subst, append_assoc, append-nil, add-zero, arith}
 use mir.Val.{bool_byte}
 use Rattle.std.proofs.lemmas.List.{length_push}
-use Rattle.std.proofs.lemmas.List.Sums.{sum_by_push, count_by-le-length}
+use Rattle.std.proofs.lemmas.List.Sums.{sum_by_push}
 use Rattle.rowtext.specs.declared.answer.Answer.{Answer}
-use Rattle.rowtext.specs.declared.answer.Answer.TheVariants.{NotRow}
 use Rattle.rowtext.specs.Answers.{Answered, is_row, is_accepted_lem, said, newline, as_line}
 use Rattle.rowtext.specs.Accounts.{EachAnswered, none, more, lines, answers_text, total, Accounted}
 
@@ -12,12 +11,8 @@ byte_is : (b : Bool) → bool_byte b ≡ cond b 1 0
 byte_is true = refl
 byte_is false = refl
 
-pub byte_low : (b : Bool) → bool_byte b ≤ 1
-byte_low true = omega arith
-byte_low false = omega arith
-
 -- the texts as `format!` gives them, piece by piece
-pub not_row_line : (line : ℕ) → codes "line " ++ (decimal line ++ (codes ": not a row of words" ++ (newline ∷ []))) ≡ as_line (said line NotRow)
+pub not_row_line : (line : ℕ) → codes "line " ++ (decimal line ++ (codes ": not a row of words" ++ (newline ∷ []))) ≡ as_line (said line (record { 0 = None }))
 not_row_line line = ap (λ bs. codes "line " ++ bs) (sym (append_assoc (decimal line) (codes ": not a row of words") (newline ∷ [])))
 
 pub total_line :
@@ -48,17 +43,7 @@ pub record Sofar (input left text : List ℕ) (count rows accepted : ℕ) : Type
   pub passed : accepted ≡ count_by is_accepted_lem answers
   pub few : length answers + length left ≤ length input
 
-pub nothing : (input text : List ℕ) → text ≡ [] → Sofar input input text 0 0 0
-nothing input text e = record { answers = []; each = λ others h. h; written = e; counted = refl; rowed = refl; passed = refl; few = omega arith }
-
 module _ {input left text : List ℕ} {count rows accepted : ℕ} (old : Sofar input left text count rows accepted) where
-  pub bounds : (count + length left ≤ length input) × (rows ≤ count) × (accepted ≤ count)
-  bounds = (
-    omega (arith, old.few, old.counted),
-    omega (arith, old.rowed, old.counted, count_by-le-length is_row old.answers),
-    omega (arith, old.passed, old.counted, count_by-le-length is_accepted_lem old.answers),
-  )
-
   tally : (p : Answer → Bool) (a : Answer) (b : Bool) (n by : ℕ) → n ≡ count_by p old.answers → b ≡ p a → by ≡ bool_byte b → n + by ≡ count_by p (old.answers ++ a ∷ [])
   tally p a b n by e same one =
       let step = sum_by_push (λ x. cond (p x) 1 0) old.answers a in

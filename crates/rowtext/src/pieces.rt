@@ -9,12 +9,9 @@ fn before(text: &[u8], separator: u8) -> usize
     ensures apart { (k : ℕ) → k < result → slice_index text.now k ≢ separator }
     ensures found { result < length text.now → slice_index text.now result ≡ separator }
 {
-    for (i, byte) in text.iter().enumerate() {
-        if *byte == separator {
-            return i;
-        }
-    }
-    text.len()
+    text.iter()
+        .position(|byte| *byte == separator)
+        .unwrap_or(text.len())
 }
 
 /// The first piece of a text, and what follows its separator; none, where the text is empty.

@@ -13,6 +13,7 @@ pub fn read_row(heap: Global, line: &[u8]) -> Result<Option<Vec<u32>>, AllocErro
 {
     let mut words = Vec::new(heap);
     let mut rest = line;
+    // no iterator of its own: that would have to say again what the clauses of next_piece say of each piece
     while let Some((piece, after)) = next_piece(rest, b' ') {
         rest = after;
         if piece.is_empty() {

@@ -1,25 +1,10 @@
-use Rattle.std.proofs.Common.{◌≡◌, [], ◌∷◌, ◌++◌, string_bytes, codes, decimal, refl, ap, ◌∙◌, arith}
+use Rattle.std.proofs.Common.{◌≡◌, [], ◌∷◌, ◌++◌, string_bytes, codes, decimal, refl, ap, ◌∙◌}
 use Rattle.rowtext.specs.Answers.{newline}
 use Rattle.rowtext.specs.Accounts.{Accounted}
 use Rattle.rowtext.proofs.Sole.{exact}
 use Rattle.rowtext.proofs.Judging.{accounted_one}
-use Rattle.rowtext.proofs.Telling.{byte_low, nothing, bounds, one_more, closed, total_line}
+use Rattle.rowtext.proofs.Telling.{one_more, closed, total_line}
 use Rattle.rowtext.proofs.account.account.Goals as goal
-
-pub loop-line-init : goal.loop-line-init
-loop-line-init c = nothing c.args.input.now (string_bytes c.new-text.result) c.new-text.ensures.bytes
-
-pub overflow_add-lines : goal.overflow_add-lines
-overflow_add-lines c = omega (arith, bounds c.loop-line.invariant, c.in-Some.ensures.falls, c.well_formed)
-
-pub overflow_add-rows : goal.overflow_add-rows
-overflow_add-rows c = omega (arith, bounds c.loop-line.invariant, c.from.ensures, byte_low c.is_row.result, c.in-Some.ensures.falls, c.well_formed)
-
-pub overflow_add-accepted : goal.overflow_add-accepted
-overflow_add-accepted c = omega (arith, bounds c.loop-line.invariant, c.from-in-Some.ensures, byte_low c.is_accepted.result, c.in-Some.ensures.falls, c.well_formed)
-
-pub loop-line-smaller : goal.loop-line-smaller
-loop-line-smaller c = c.in-Some.ensures.falls
 
 pub loop-line-preserved : goal.loop-line-preserved
 loop-line-preserved c =

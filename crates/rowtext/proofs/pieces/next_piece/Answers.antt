@@ -1,16 +1,10 @@
 use Rattle.std.proofs.Common.{◌≡◌, ◌+◌, ◌-◌, ◌<◌, [], length, take, drop, Some, sym, ap, ◌∙◌, add-one, arith}
 use native.Mathlib.Nat.{sub-zero}
 use Rattle.std.proofs.lemmas.List.{take_rest, drop_all}
-use Rattle.std.proofs.lemmas.Bool.{eqb-true, eqb-false}
+use Rattle.std.proofs.lemmas.Bool.{eqb-false}
 use Rattle.rowtext.specs.Pieces.{cut}
-use Rattle.rowtext.proofs.Cutting.{cut_at, cut_all, cut_none, cut_goes_on}
+use Rattle.rowtext.proofs.Cutting.{cut_at, cut_all, cut_goes_on}
 use Rattle.rowtext.proofs.pieces.next_piece.Goals as goal
-
-pub returns-then-is_empty : goal.returns-then-is_empty
-returns-then-is_empty c =
-    let none = eqb-true (length c.args.text.now) 0 (sym c.if-is_empty.ensures) in
-    let h = cut_none c.args.separator c.args.text.now none in
-    record { parts = h.0; cuts = h.1; falls = none }
 
 pub returns-then-end-text : goal.returns-then-end-text
 returns-then-end-text c =

@@ -6,14 +6,14 @@ use Rattle.rowtext.proofs.Sole.{exact}
 use Rattle.rowtext.proofs.Judging.{judged_refused, judged_one, never_short}
 use Rattle.rowtext.proofs.verdict.judge.Goals as goal
 
-pub returns-in-Ok : goal.returns-in-Ok
-returns-in-Ok c =
+pub returns-in-Ok-clause-answers : goal.returns-in-Ok-clause-answers
+returns-in-Ok-clause-answers c =
     let ws = c.args.words.now in
     let v = c.accepted.result in
     let told = (c.in-Ok.ensures.answers right).0 refl in
     let e : v ≡ numbers (meaning ws) = c.accepted.ensures ∙ ap (λ us. numbers (meaning us)) c.in-Ok.ensures.grammar in
     let h = subst (Judged ws) (sym e) (told, refl) in
-    record { answers = exact (Judged ws) v h (λ u. judged_one ws v u h); roomy = never_short ws v h }
+    exact (Judged ws) v h (λ u. judged_one ws v u h)
 
 pub returns-in-Err : goal.returns-in-Err
 returns-in-Err c =
