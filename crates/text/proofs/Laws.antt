@@ -1,5 +1,7 @@
 -- Laws of what a pair accepts, and of a list with a part replaced.
-use Rattle.std.proofs.Common.{◌≡◌, ℕ, zero, suc, ◌+◌, ◌-◌, ◌<◌, ◌≤◌, Bool, true, false, List, [], ◌∷◌, ◌++◌, length, get_or, take, drop, is_ok, Ok, Err, Result, sym, refl, ap, ◌∙◌, ⊎_elim, le_of_suc-le-suc, not-suc-le-zero, suc-add, zero-add, arith, length-append, length-drop, length-take}
+use Rattle.std.proofs.Common.{◌≡◌, ℕ, zero, suc, ◌+◌, ◌-◌, ◌<◌, ◌≤◌, Bool, true, false, List, [], ◌∷◌, ◌++◌, length, get_or, take, drop, is_ok, Ok, Err, Result, Option, Some, None, MatchOption, sym, refl, ap, ◌∙◌, ⊎_elim, le_of_suc-le-suc, not-suc-le-zero, suc-add, zero-add, arith, length-append, length-drop, length-take}
+use Rattle.std.specs.Slice.{IsItemAt}
+use denote.Ref.{Bor}
 use Rattle.std.proofs.lemmas.List.{length-take-le}
 use Rattle.std.proofs.lemmas.Bool.{cases_lt, false≢true}
 use Rattle.text.specs.declared.EditRefusal.{EditRefusal}
@@ -21,6 +23,11 @@ module _ {E : Type 0} (fits : ℕ → ℕ → E → Bool) where
   accepted_in [] a b i d h = absurd (not-suc-le-zero h)
   accepted_in (x ∷ xs) a b zero d h = refl
   accepted_in (x ∷ xs) a b (suc i) d h = accepted_in xs a b i d (le_of_suc-le-suc h)
+
+  -- an element's own answer, if there is one at the place, and else no
+  pub accepted_at : (xs : List E) (a b i : ℕ) (o : Option (Bor E)) (r : Bool) {Q : Bor E → Type 0} → IsItemAt xs i o → MatchOption o (r ≡ false) Q → ((x : Bor E) → Q x → r ≡ fits a b x.now) → r ≡ accepted fits xs a b i
+  accepted_at xs a b i None r at is own = is ∙ sym (accepted_past xs a b i at.3)
+  accepted_at xs a b i (Some x) r at is own = own x is ∙ ap (fits a b) at.1 ∙ sym (accepted_in xs a b i x.now at.3.0)
 
   accepted_left : (xs ys : List E) (a b i : ℕ) → i < length xs → accepted fits (xs ++ ys) a b i ≡ accepted fits xs a b i
   accepted_left [] ys a b i h = absurd (not-suc-le-zero h)

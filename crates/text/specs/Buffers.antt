@@ -1,23 +1,23 @@
 -- What the texts in lent buffers mean.
-use Rattle.std.specs.Prelude.{◌≡◌, ℕ, min, max, List, length, take, drop}
+use Rattle.std.specs.Prelude.{◌≡◌, ℕ, max, List, length, take, drop}
 use Rattle.text.specs.declared.buffer.Buffer.{Buffer}
 use Rattle.text.specs.declared.fixed.FixedBytes.{FixedBytes}
 
--- the text of fixed bytes: as many from the start as its size says, and never more than there are
+-- the text of fixed bytes: those that are held
 abbrev pub fixed_text : FixedBytes → List ℕ
-fixed_text s = take (min s.size (length s.bytes.now)) s.bytes.now
+fixed_text s = s.bytes.now
 
 -- fixed bytes have no room for more
 abbrev pub fixed_room : FixedBytes → ℕ
 fixed_room s = length (fixed_text s)
 
--- a buffer's capacity: what was set at its making, and never more than there are places
+-- a buffer's capacity: what was set at its making; there are at least as many places
 abbrev pub buffer_room : {E : Type 0} → Buffer E → ℕ
-buffer_room s = min s.capacity (length s.places.now)
+buffer_room s = s.capacity
 
--- a buffer's text: as many elements from its start as its size says, and never more than its capacity
+-- a buffer's text: as many elements from its start as its size says, which is at most its capacity
 abbrev pub buffer_text : {E : Type 0} → Buffer E → List E
-buffer_text s = take (min s.size (buffer_room s)) s.places.now
+buffer_text s = take s.size s.places.now
 
 -- What a change leaves in the places from the new size on is undecided. Known is that there are as many places as before,
 -- and that those that neither the old nor the new text uses are as they were.

@@ -1,41 +1,44 @@
 //! Bytes for reading only.
-ghost use Rattle.text.specs.Buffers.{fixed_room, fixed_text};
-ghost use Rattle.text.specs.Meaning.{byte_in};
-ghost use Rattle.text.specs.Refusals.{BufferExactly, CountExactly};
-ghost use Rattle.std.specs.Prelude.{◌≡◌, [], length, take, MatchResult};
+ghost use Rattle.std.specs.Prelude.{◌≡◌, ◌≤◌, [], length, take, MatchResult};
 
 use crate::symbol::accepts_at;
 use crate::{MakeRefusal, Text, check_making};
 
-/// A text of the first bytes of a lent buffer. Every value of these fields is a text: its size is cut to what is there.
+/// A text of lent bytes.
 #[derive(Clone, Copy)]
 pub struct FixedBytes<'a> {
     bytes: &'a [u8],
-    size: u16,
+    ghost few: { length bytes.now ≤ 65535 },
 }
 
 impl<'a> FixedBytes<'a> {
+    ghost use Rattle.text.specs.Buffers.{fixed_room, fixed_text};
+    ghost use Rattle.text.specs.Refusals.{BufferExactly, CountExactly};
+
     /// The text of the buffer's first count bytes, or one of no bytes and why.
+    // a refused making still gives a text, so the answer stands beside it
     pub fn new(bytes: &'a [u8], count: usize) -> (Self, Result<(), MakeRefusal>)
         ensures buffer { BufferExactly result.1 (length bytes.now) }
         ensures count { CountExactly result.1 (length bytes.now) count }
         ensures made { MatchResult result.1 (λ _. (fixed_text result.0 ≡ take count bytes.now) × (fixed_room result.0 ≡ count)) (λ _. (fixed_text result.0 ≡ []) × (fixed_room result.0 ≡ 0)) }
-        ensures untouched { result.0.bytes.now ≡ bytes.now }
+        ensures untouched { result.0.bytes.now ≡ take (fixed_room result.0) bytes.now }
     {
-        match check_making(bytes.len(), count) {
-            Ok(()) => (
-                FixedBytes {
-                    bytes,
-                    size: count as u16,
-                },
-                Ok(()),
-            ),
-            Err(refusal) => (FixedBytes { bytes, size: 0 }, Err(refusal)),
-        }
+        let made = check_making(bytes.len(), count);
+        let size = match made {
+            Ok(()) => count,
+            Err(_) => 0,
+        };
+        let text = FixedBytes {
+            bytes: &bytes[..size],
+        };
+        (text, made)
     }
 }
 
 impl Text for FixedBytes<'_> {
+    ghost use Rattle.text.specs.Buffers.{fixed_room, fixed_text};
+    ghost use Rattle.text.specs.Meaning.{byte_in};
+
     type Element = u8;
 
     ghost elements = { fixed_text };
@@ -45,7 +48,7 @@ impl Text for FixedBytes<'_> {
     ghost room = { fixed_room };
 
     fn size(&self) -> usize {
-        self.bytes.len().min(self.size as usize)
+        self.bytes.len()
     }
 
     fn capacity(&self) -> usize {
@@ -53,7 +56,6 @@ impl Text for FixedBytes<'_> {
     }
 
     fn accepts(&self, a: u32, b: u32, place: usize) -> bool {
-        let n = self.size();
-        accepts_at(&self.bytes[0..n], a, b, place)
+        accepts_at(self.bytes, a, b, place)
     }
 }

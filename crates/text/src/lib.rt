@@ -1,9 +1,9 @@
 //! Texts: what can be read, what can be changed, and the three texts in lent buffers.
 #![tactic(auto)]
 
-ghost use Rattle.std.specs.Prelude.{◌≡◌, ℕ, ◌≤◌, Bool, List, length, MatchResult, OnOk};
+ghost use Rattle.std.specs.Prelude.{◌≡◌, ℕ, ◌≤◌, Bool, List, length, Err, MatchResult, OnOk};
 ghost use Rattle.text.specs.Meaning.{accepted, replaced};
-ghost use Rattle.text.specs.Refusals.{BufferExactly, CountExactly, RangeExactly, RoomExactly};
+ghost use Rattle.text.specs.Refusals.{BufferExactly, CountExactly, RangeExactly, RoomExactly, edit_number, make_number};
 
 mod buffer;
 mod fixed;
@@ -21,18 +21,34 @@ pub const MAX_ELEMENTS: usize = 65_535;
 #[derive(Clone, Copy, PartialEq, Eq, Debug)]
 pub enum EditRefusal {
     /// 11: the elements to be replaced pass the end of the text.
-    Range,
+    Range = 11,
     /// 12: the text would pass its capacity.
-    Room,
+    Room = 12,
 }
 
 /// Why a buffer and a count make no text.
 #[derive(Clone, Copy, PartialEq, Eq, Debug)]
 pub enum MakeRefusal {
     /// 13: the buffer has more than `MAX_ELEMENTS` elements.
-    Buffer,
+    Buffer = 13,
     /// 14: the count does not fit the buffer.
-    Count,
+    Count = 14,
+}
+
+impl From<EditRefusal> for u8 {
+    ghost from_gives = { λ refusal number. number ≡ edit_number (Err refusal) };
+
+    fn from(refusal: EditRefusal) -> u8 {
+        refusal as u8
+    }
+}
+
+impl From<MakeRefusal> for u8 {
+    ghost from_gives = { λ refusal number. number ≡ make_number (Err refusal) };
+
+    fn from(refusal: MakeRefusal) -> u8 {
+        refusal as u8
+    }
 }
 
 /// A text that can be read: a list of elements, a capacity, and which pair accepts which element.
@@ -61,6 +77,7 @@ pub trait Text {
         ensures few { room self.now ≤ 65535 };
 
     /// Whether the pair a, b accepts the element at a place; from the end on there is none, and the answer is no.
+    // the two numbers of a pair come as an expression of a grammar has them, in fields of its own
     fn accepts(&self, a: u32, b: u32, place: usize) -> bool
         ensures { result ≡ accepted fits (elements self.now) a b place };
 }
@@ -68,6 +85,7 @@ pub trait Text {
 /// A text that can be changed.
 pub trait EditableText: Text {
     /// Puts the items where k elements stood at p, or says why not and changes nothing.
+    // p, k and items as the bench's change takes them
     fn replace(&mut self, p: usize, k: usize, items: &[Self::Element]) -> Result<(), EditRefusal>
         ensures range { RangeExactly result (length (Self.Text.elements self.old)) p k }
         ensures room { RoomExactly result (length (Self.Text.elements self.old)) (Self.Text.room self.old) p k (length items.now) }

@@ -19,8 +19,7 @@ impl Symbol for u8 {
     ghost matches = { byte_in };
 
     fn accepted_by(self, a: u32, b: u32) -> bool {
-        let x = u32::from(self);
-        a <= x && x <= b
+        (a..=b).contains(&u32::from(self))
     }
 }
 
@@ -33,6 +32,7 @@ impl Symbol for u32 {
 }
 
 /// Bits 31 to 28 of a log's word.
+// A number and no enum: a log's kinds mean nothing here but to be the first number of a pair.
 fn kind_of(word: u32) -> u32
     ensures { result ≡ event_kind word }
 {
@@ -50,8 +50,7 @@ fn loop_of(word: u32) -> u32
 pub(crate) fn accepts_at<E: Symbol>(elements: &[E], a: u32, b: u32, place: usize) -> bool
     ensures { result ≡ accepted E.Symbol.matches elements.now a b place }
 {
-    if place >= elements.len() {
-        return false;
-    }
-    elements[place].accepted_by(a, b)
+    elements
+        .get(place)
+        .is_some_and(|element| element.accepted_by(a, b))
 }
