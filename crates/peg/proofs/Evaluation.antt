@@ -9,7 +9,8 @@ use Rattle.grammar.proofs.Referring.{accepted_whole, accepted_solid}
 use Rattle.grammar.specs.Form.{recovers_lem}
 use Rattle.peg.specs.declared.results.Outcome.{Outcome}
 use Rattle.peg.specs.declared.results.Outcome.TheVariants.{Match, Failure}
-use Rattle.peg.specs.Results.{RulePlace, Given}
+use Rattle.peg.specs.declared.results.RulePlace.{RulePlace}
+use Rattle.peg.specs.Results.{Given}
 use Rattle.peg.specs.Rules.{Text, Gives, RuleGives, caught, one_deeper, of_rule, of_sequence, of_other, of_round, of_predicate, of_recovery}
 use Rattle.peg.specs.Rules.{as_its_body}
 use Rattle.peg.specs.Halting.{Halts, RuleHalts}

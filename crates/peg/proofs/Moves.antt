@@ -9,7 +9,8 @@ use Rattle.grammar.specs.Words.{Peg}
 use Rattle.peg.specs.declared.results.Outcome.{Outcome}
 use Rattle.peg.specs.declared.results.Outcome.TheVariants.{Match, Failure}
 use Rattle.peg.specs.declared.results.Note.{Note}
-use Rattle.peg.specs.Results.{Recovery, RulePlace, Given}
+use Rattle.peg.specs.declared.results.RulePlace.{RulePlace}
+use Rattle.peg.specs.Results.{Recovery, Given}
 use Rattle.peg.specs.Rules.{Text, Gives, RuleGives, unmarked, farther, join, caught, if_matched, denied, denied_note, recovered, one_deeper, of_rule, of_sequence, of_other, of_round, of_predicate, of_recovery}
 use Rattle.peg.specs.Rules.{empty_matches, terminal_matches, terminal_fails, call_gives, sequence_goes_on, sequence_fails, choice_stays, choice_turns, repetition_ends, repetition_fails, repetition_goes_on, predicate_denies, throw_fails, throw_recovers, as_its_body}
 use Rattle.peg.specs.Moves.{moved_outcome, moved_note, moved_recovery, moved_rule_place, moved, shift, Agree, Local}

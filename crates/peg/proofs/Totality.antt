@@ -14,7 +14,8 @@ use Rattle.grammar.proofs.Referring.{accepted_whole, accepted_solid, accepted_en
 use Rattle.grammar.specs.Form.{recovers_lem}
 use Rattle.peg.specs.declared.results.Outcome.{Outcome}
 use Rattle.peg.specs.declared.results.Outcome.TheVariants.{Match, Failure}
-use Rattle.peg.specs.Results.{RulePlace, Given}
+use Rattle.peg.specs.declared.results.RulePlace.{RulePlace}
+use Rattle.peg.specs.Results.{Given}
 use Rattle.peg.specs.Rules.{Text, Gives, RuleGives, caught, denied, one_deeper, of_rule, of_sequence, of_other, of_end, of_round, of_predicate, of_recovery}
 use Rattle.peg.specs.Rules.{empty_matches, terminal_matches, terminal_fails, call_gives, sequence_goes_on, sequence_fails, choice_stays, choice_turns, repetition_ends, repetition_fails, repetition_goes_on, predicate_denies, throw_fails, throw_recovers, as_its_body}
 use Rattle.peg.specs.Halting.{Halts, RuleHalts}

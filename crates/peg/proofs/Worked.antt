@@ -3,7 +3,8 @@ use Rattle.std.proofs.Common.{◌≡◌, ℕ, suc, Bool, true, false, cond, ◌�
 use Rattle.grammar.specs.declared.expr.Mode.{Mode}
 use Rattle.grammar.specs.declared.expr.Mode.TheVariants.{On, Off}
 use Rattle.peg.specs.declared.results.Outcome.TheVariants.{Match, Failure}
-use Rattle.peg.specs.Results.{RulePlace, Given}
+use Rattle.peg.specs.declared.results.RulePlace.{RulePlace}
+use Rattle.peg.specs.Results.{Given}
 use Rattle.peg.specs.Rules.{Text, RuleGives, alone}
 use Rattle.peg.specs.Rules.{predicate_denies, throw_fails, as_its_body}
 use Rattle.grammar.specs.Words.{Peg, meaning}

@@ -6,7 +6,8 @@ use Rattle.grammar.specs.Words.{Peg, meaning}
 use Rattle.grammar.specs.Form.{Whole}
 use Rattle.grammar.specs.Questions.{Accepted}
 use Rattle.peg.specs.Members.{In}
-use Rattle.peg.specs.Results.{RulePlace, Given}
+use Rattle.peg.specs.declared.results.RulePlace.{RulePlace}
+use Rattle.peg.specs.Results.{Given}
 use Rattle.peg.specs.Rules.{Text, Gives, RuleGives}
 use Rattle.peg.specs.Halting.{Halts, RuleHalts}
 use Rattle.peg.specs.Totality.{Ends}

@@ -9,7 +9,8 @@ use Rattle.grammar.specs.Form.{recovers_lem, Whole, Solid}
 use Rattle.grammar.specs.Questions.{Accepted}
 use Rattle.peg.specs.declared.results.Outcome.{Outcome}
 use Rattle.peg.specs.declared.results.Outcome.TheVariants.{Match, Failure}
-use Rattle.peg.specs.Results.{RulePlace, Given}
+use Rattle.peg.specs.declared.results.RulePlace.{RulePlace}
+use Rattle.peg.specs.Results.{Given}
 use Rattle.peg.specs.Rules.{Text, expected, unmarked, caught, alone, one_deeper, of_rule, of_sequence, of_other, of_end, of_round, of_predicate, of_recovery, Gives, RuleGives}
 use Rattle.peg.specs.Halting.{Halts, RuleHalts}
 use Rattle.peg.specs.Totality.{Ends}

@@ -7,7 +7,8 @@ use Rattle.grammar.specs.declared.expr.Expr.TheVariants.{Call, Sequence, Choice,
 use Rattle.grammar.specs.Words.{Peg}
 use Rattle.grammar.specs.Form.{recovers_lem}
 use Rattle.peg.specs.declared.results.Outcome.TheVariants.{Match}
-use Rattle.peg.specs.Results.{RulePlace, Given}
+use Rattle.peg.specs.declared.results.RulePlace.{RulePlace}
+use Rattle.peg.specs.Results.{Given}
 use Rattle.peg.specs.Rules.{Text, caught, Gives, RuleGives}
 
 -- with k frames, the evaluation of an expression comes to one that would stand deeper, when the rule-places zs are completed

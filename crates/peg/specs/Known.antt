@@ -3,7 +3,8 @@ use Rattle.std.specs.Prelude.{◌≡◌, ℕ, List, []}
 use Rattle.grammar.specs.declared.expr.Mode.{Mode}
 use Rattle.grammar.specs.Words.{Peg}
 use Rattle.peg.specs.Members.{In}
-use Rattle.peg.specs.Results.{RulePlace, Given}
+use Rattle.peg.specs.declared.results.RulePlace.{RulePlace}
+use Rattle.peg.specs.Results.{Given}
 use Rattle.peg.specs.Rules.{Text, RuleGives}
 use Rattle.peg.specs.Halting.{RuleHalts}
 use Rattle.peg.specs.Completing.{PlaceGives}

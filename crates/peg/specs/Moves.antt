@@ -6,7 +6,8 @@ use Rattle.grammar.specs.Words.{Peg}
 use Rattle.peg.specs.declared.results.Outcome.{Outcome}
 use Rattle.peg.specs.declared.results.Outcome.TheVariants.{Match, Failure}
 use Rattle.peg.specs.declared.results.Note.{Note}
-use Rattle.peg.specs.Results.{Recovery, RulePlace, Given}
+use Rattle.peg.specs.declared.results.RulePlace.{RulePlace}
+use Rattle.peg.specs.Results.{Recovery, Given}
 use Rattle.peg.specs.Rules.{Text, Gives, RuleGives}
 
 -- each place moved by f

@@ -1,22 +1,16 @@
 -- What an evaluation gives, and what a reader tells of it.
 use Rattle.std.specs.Prelude.{ℕ, min, List, [], ◌∷◌, length, Option}
-use Rattle.grammar.specs.declared.expr.Mode.{Mode}
 use Rattle.peg.specs.declared.results.Outcome.{Outcome}
 use Rattle.peg.specs.declared.results.Note.{Note}
 use Rattle.peg.specs.declared.results.Recoveries.{Recoveries}
 use Rattle.peg.specs.declared.results.Reading.{Reading}
+use Rattle.peg.specs.declared.results.RulePlace.{RulePlace}
 
 -- a throw that was recovered: its label and place, and the end of its recovery expression's match
 pub record Recovery : Type 0 where
   pub label : ℕ
   pub place : ℕ
   pub end : ℕ
-
--- a rule, a place and a mode
-pub record RulePlace : Type 0 where
-  pub rule : ℕ
-  pub place : ℕ
-  pub mode : Mode
 
 -- what an evaluation gives; completed are the rule-places evaluated to their end in it, in that order
 pub record Given : Type 0 where

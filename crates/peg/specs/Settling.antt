@@ -3,7 +3,8 @@ use Rattle.std.specs.Prelude.{ℕ, ◌+◌, ◌<◌, ◌≤◌, Bool, ◌↔◌,
 use Rattle.grammar.specs.Words.{Peg}
 use Rattle.text.specs.Meaning.{accepted, replaced}
 use Rattle.peg.specs.Members.{In}
-use Rattle.peg.specs.Results.{RulePlace, Given}
+use Rattle.peg.specs.declared.results.RulePlace.{RulePlace}
+use Rattle.peg.specs.Results.{Given}
 use Rattle.peg.specs.Rules.{Text}
 use Rattle.peg.specs.Moves.{moved_rule_place}
 use Rattle.peg.specs.Edits.{along}

@@ -5,7 +5,8 @@ use Rattle.grammar.specs.Words.{Peg, meaning}
 use Rattle.grammar.specs.Form.{Whole, Solid, Ending}
 use Rattle.grammar.specs.Questions.{Accepted}
 use Rattle.text.specs.Meaning.{accepted}
-use Rattle.peg.specs.Results.{RulePlace, Given}
+use Rattle.peg.specs.declared.results.RulePlace.{RulePlace}
+use Rattle.peg.specs.Results.{Given}
 use Rattle.peg.specs.Rules.{Text, Gives, RuleGives}
 use Rattle.peg.specs.Halting.{Halts, RuleHalts}
 

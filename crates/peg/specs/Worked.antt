@@ -9,7 +9,8 @@ use Rattle.peg.specs.declared.results.Outcome.{Outcome}
 use Rattle.peg.specs.declared.results.Outcome.TheVariants.{Match, Failure}
 use Rattle.peg.specs.declared.results.Note.{Note}
 use Rattle.peg.specs.declared.results.Recoveries.{Recoveries}
-use Rattle.peg.specs.Results.{RulePlace, Given, summary}
+use Rattle.peg.specs.declared.results.RulePlace.{RulePlace}
+use Rattle.peg.specs.Results.{Given, summary}
 use Rattle.peg.specs.Rules.{Text, Parses}
 use Rattle.peg.specs.Halting.{ParseHalts}
 use Rattle.peg.specs.Readings.{no_recoveries, one_recovery}

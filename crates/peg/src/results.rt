@@ -1,6 +1,16 @@
 //! What an evaluation comes to, as a reader answers it.
+use grammar::expr::Mode;
+
+/// A rule at a place in a mode.
+#[derive(Clone, Copy, PartialEq, Eq, Debug, Default)]
+pub struct RulePlace {
+    pub rule: usize,
+    pub place: usize,
+    pub mode: Mode,
+}
 
 /// A match with its end, or a failure with its label and place.
+// No Result: a failure is an answer that choices and predicates look at, and never goes up by `?`.
 #[derive(Clone, Copy, PartialEq, Eq, Debug)]
 pub enum Outcome {
     Match { end: usize },
@@ -15,7 +25,8 @@ pub struct Note {
 }
 
 /// How many throws were recovered, but never more than 65,535, and the first one's label and place; all 0 if none was.
-#[derive(Clone, Copy, PartialEq, Eq, Debug)]
+// No Option: counts add up, and 0 says that nothing was recovered.
+#[derive(Clone, Copy, PartialEq, Eq, Debug, Default)]
 pub struct Recoveries {
     pub count: u16,
     pub label: u8,

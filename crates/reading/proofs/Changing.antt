@@ -2,7 +2,7 @@
 use Rattle.std.proofs.Common.{◌≡◌, ℕ, ◌<◌, ◌≤◌, Bool, true, false, cond, ◌⊎◌, ◌↔◌, List, [], ◌∷◌, ◌++◌, length, None, sym, refl, ◌∙◌, subst, inl, inr, arith, length-append}
 use Rattle.grammar.specs.declared.expr.Mode.{Mode}
 use Rattle.peg.specs.Members.{In, Distinct}
-use Rattle.peg.specs.Results.{RulePlace}
+use Rattle.peg.specs.declared.results.RulePlace.{RulePlace}
 use Rattle.peg.specs.Counting.{holds, learned, fresh}
 use Rattle.peg.specs.Known.{Known}
 use Rattle.peg.proofs.Members.{in_append, in_left, in_right}

@@ -8,7 +8,8 @@ use Rattle.grammar.specs.Words.{Peg}
 use Rattle.grammar.specs.Form.{recovers_lem}
 use Rattle.peg.specs.declared.results.Outcome.TheVariants.{Match, Failure}
 use Rattle.peg.specs.declared.results.Reading.{Reading}
-use Rattle.peg.specs.Results.{RulePlace, Given, told}
+use Rattle.peg.specs.declared.results.RulePlace.{RulePlace}
+use Rattle.peg.specs.Results.{Given, told}
 use Rattle.peg.specs.Rules.{Text, RuleGives, caught}
 use Rattle.peg.specs.Rules.{sequence_goes_on, sequence_fails, choice_stays, choice_turns, repetition_ends, repetition_fails, repetition_goes_on, predicate_denies, throw_recovers, as_its_body}
 use Rattle.peg.specs.Halting.{RuleHalts}

@@ -8,7 +8,7 @@ use Rattle.grammar.specs.declared.expr.Expr.TheVariants.{Empty, Terminal, Call, 
 use Rattle.grammar.specs.Form.{recovers_lem}
 use Rattle.peg.specs.declared.results.Outcome.TheVariants.{Match, Failure}
 use Rattle.peg.specs.declared.results.Reading.{Reading}
-use Rattle.peg.specs.Results.{RulePlace}
+use Rattle.peg.specs.declared.results.RulePlace.{RulePlace}
 use Rattle.peg.specs.Rules.{unmarked, caught}
 use Rattle.peg.specs.Members.{In}
 use Rattle.peg.specs.Readings.{read_alone, read_deeper, read_sequence, read_other, read_end, read_round, read_predicate, read_recovery}

@@ -7,7 +7,8 @@ use Rattle.text.specs.Meaning.{accepted, replaced}
 use Rattle.text.proofs.Laws.{length_replaced}
 use Rattle.peg.specs.declared.results.Outcome.TheVariants.{Match, Failure}
 use Rattle.peg.specs.Members.{In}
-use Rattle.peg.specs.Results.{RulePlace, Given}
+use Rattle.peg.specs.declared.results.RulePlace.{RulePlace}
+use Rattle.peg.specs.Results.{Given}
 use Rattle.peg.specs.Rules.{Text, RuleGives}
 use Rattle.peg.specs.Moves.{moved_outcome, moved_note, moved_rule_place}
 use Rattle.peg.specs.Summaries.{moved_recoveries}

@@ -7,7 +7,8 @@ use Rattle.grammar.specs.declared.expr.Expr.TheVariants.{Empty, Terminal, Call, 
 use Rattle.grammar.specs.Form.{Refers}
 use Rattle.peg.specs.declared.results.Outcome.TheVariants.{Match}
 use Rattle.peg.specs.declared.results.Reading.{Reading}
-use Rattle.peg.specs.Results.{RulePlace, Given, told}
+use Rattle.peg.specs.declared.results.RulePlace.{RulePlace}
+use Rattle.peg.specs.Results.{Given, told}
 use Rattle.peg.specs.Rules.{RuleGives, of_rule}
 use Rattle.peg.specs.Rules.{empty_matches, terminal_matches, terminal_fails, throw_fails, as_its_body}
 use Rattle.peg.specs.Halting.{too_deep}

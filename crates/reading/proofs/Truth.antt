@@ -8,7 +8,8 @@ use Rattle.grammar.specs.Questions.{Accepted}
 use Rattle.grammar.proofs.Referring.{accepted_whole, accepted_labels, accepted_marks}
 use Rattle.text.specs.Meaning.{accepted}
 use Rattle.peg.specs.declared.results.Reading.{Reading}
-use Rattle.peg.specs.Results.{RulePlace, Given, told}
+use Rattle.peg.specs.declared.results.RulePlace.{RulePlace}
+use Rattle.peg.specs.Results.{Given, told}
 use Rattle.peg.specs.Rules.{Parses}
 use Rattle.peg.specs.Rules.{as_its_body}
 use Rattle.peg.proofs.Halting.{some_depth, deeper, rule_deeper}

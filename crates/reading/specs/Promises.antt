@@ -1,7 +1,8 @@
 -- What every reading promises besides being one: each number exactly when, no other reply, and what the rules derive over true rows.
 use Rattle.std.specs.Prelude.{◌≡◌, ℕ, ◌<◌, ◌≤◌, true, ◌↔◌, List, Ok, Err}
 use Rattle.grammar.specs.declared.expr.Mode.TheVariants.{On}
-use Rattle.peg.specs.Results.{RulePlace, Given, told}
+use Rattle.peg.specs.declared.results.RulePlace.{RulePlace}
+use Rattle.peg.specs.Results.{Given, told}
 use Rattle.peg.specs.Rules.{Parses}
 use Rattle.memo.specs.Tables.{Table, Empty}
 use Rattle.reading.specs.declared.refusal.Refusal.{Refusal}

@@ -1,7 +1,7 @@
 -- Which rows a table holds, which rows a reading puts, and which rows its puts drop.
 use Rattle.std.specs.Prelude.{◌≡◌, ℕ, Bool, cond, List, [], ◌∷◌, ◌++◌, Some, None}
 use Rattle.grammar.specs.declared.expr.Mode.{Mode}
-use Rattle.peg.specs.Results.{RulePlace}
+use Rattle.peg.specs.declared.results.RulePlace.{RulePlace}
 use Rattle.memo.specs.declared.row.Row.{Row}
 use Rattle.memo.specs.Tables.{Table, Same}
 use Rattle.reading.specs.Reads.{Setting, Store, Res, Asked, Reads}

@@ -5,7 +5,7 @@ use Rattle.grammar.specs.Words.{Peg}
 use Rattle.grammar.specs.Form.{Whole}
 use Rattle.text.specs.Meaning.{accepted, replaced}
 use Rattle.peg.specs.Members.{In}
-use Rattle.peg.specs.Results.{RulePlace}
+use Rattle.peg.specs.declared.results.RulePlace.{RulePlace}
 use Rattle.peg.specs.Rules.{Text}
 use Rattle.peg.specs.Fitting.{Labelled, Marked}
 use Rattle.peg.specs.Completing.{Among}

@@ -8,7 +8,8 @@ use Rattle.grammar.specs.Questions.{Accepted}
 use Rattle.grammar.specs.Form.{Whole}
 use Rattle.text.specs.Meaning.{accepted}
 use Rattle.peg.specs.declared.results.Reading.{Reading}
-use Rattle.peg.specs.Results.{RulePlace, Given, told}
+use Rattle.peg.specs.declared.results.RulePlace.{RulePlace}
+use Rattle.peg.specs.Results.{Given, told}
 use Rattle.peg.specs.Rules.{Text, Gives, RuleGives, Parses}
 use Rattle.peg.specs.Halting.{Halts, RuleHalts}
 use Rattle.peg.specs.Totality.{Ends}

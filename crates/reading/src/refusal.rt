@@ -1,4 +1,6 @@
 //! Why a reading is refused.
+ghost use Rattle.std.specs.Prelude.{◌≡◌};
+ghost use Rattle.reading.specs.Replies.{number};
 
 /// The three questions that a reading asks.
 #[derive(Clone, Copy, PartialEq, Eq, Debug)]
@@ -9,4 +11,16 @@ pub enum Refusal {
     Unfit,
     /// An expression, or a row found, would stand deeper than there are frames.
     TooDeep,
+}
+
+impl From<Refusal> for u8 {
+    ghost from_gives = { λ e n. n ≡ number e };
+
+    fn from(refusal: Refusal) -> u8 {
+        match refusal {
+            Refusal::Uncovered => 8,
+            Refusal::Unfit => 9,
+            Refusal::TooDeep => 10,
+        }
+    }
 }
