@@ -13,15 +13,10 @@ unfolding unpacked
 unpacked_some w e = rw e
 
 -- a slot is what its eight words say
-pub unpacked_eight : (f g : ℕ → ℕ) → f 0 ≡ g 0 → f 1 ≡ g 1 → f 2 ≡ g 2 → f 3 ≡ g 3 → f 4 ≡ g 4 → f 5 ≡ g 5 → f 6 ≡ g 6 → f 7 ≡ g 7
-    → unpacked f ≡ unpacked g
-unfolding unpacked
-unpacked_eight f g a₀ a₁ a₂ a₃ a₄ a₅ a₆ a₇ = rw (a₀, a₁, a₂, a₃, a₄, a₅, a₆, a₇)
-
 pub unpacked_same : (f g : ℕ → ℕ) → ((j : ℕ) → j < 8 → f j ≡ g j) → unpacked f ≡ unpacked g
+unfolding unpacked
 unpacked_same f g h =
-    unpacked_eight f g (h 0 (omega arith)) (h 1 (omega arith)) (h 2 (omega arith)) (h 3 (omega arith)) (h 4 (omega arith)) (h 5 (omega arith))
-    (h 6 (omega arith)) (h 7 (omega arith))
+    rw (h 0 (omega arith), h 1 (omega arith), h 2 (omega arith), h 3 (omega arith), h 4 (omega arith), h 5 (omega arith), h 6 (omega arith), h 7 (omega arith))
 
 -- a row is its fields
 pub row_of : (y : Row) (matched : Bool) (label end : ℕ) (noted : Bool) (note marks recoveries recovered_label first depth reach : ℕ)

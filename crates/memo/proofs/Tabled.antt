@@ -1,15 +1,13 @@
 -- From slots to the table: what a write, a blanking and a pass over the slots do to the rows.
-use Rattle.std.proofs.Common.{◌≡◌, ℕ, ◌+◌, ◌-◌, ◌*◌, ◌/◌, ◌<◌, ◌≤◌, true, ltb, leb, ◌⊎◌, List, get_or, Some, None, Option, sym, refl, ap, ◌∙◌, subst, inl, inr, arith}
-use Rattle.std.proofs.lemmas.Bool.{cases_lt, cases_order, cases_Bool, lt-ltb, le-ltb, le-leb, leb-true, and_right}
+use Rattle.std.proofs.Common.{◌≡◌, ℕ, ◌+◌, ◌-◌, ◌*◌, ◌/◌, ◌<◌, ◌≤◌, true, ltb, leb, ◌⊎◌, List, get_or, Some, None, Option, sym, ap, ◌∙◌, subst, inl, inr, arith}
+use Rattle.std.proofs.lemmas.Bool.{cases_lt, cases_order, lt-ltb, le-ltb, le-leb, leb-true, and_right}
+use Rattle.std.proofs.lemmas.Option.{none-some, cond_some}
 use Rattle.grammar.specs.declared.expr.Mode.{Mode}
 use Rattle.memo.specs.declared.row.Row.{Row}
-use Rattle.memo.specs.Tables.{Same, Within, Empty, Puts, Shifts}
+use Rattle.memo.specs.Tables.{Same, Empty, Puts, Shifts}
 use Rattle.memo.specs.Layout.{slot_row, Written, slot, rows, stays, Comes, After}
 use Rattle.memo.proofs.Packing.{unpacked_none}
 use Rattle.memo.proofs.Keys.{slot_same, slot_below, slot_place, slot_lane}
-
-pub some_none : (o : Option Row) (x : Row) → o ≡ Some x → o ≡ None → ⊥
-some_none o x a b = let z : ◌≡◌ {A = ℕ} 0 1 = cc in omega arith
 
 -- a key is inside or outside
 pub inside : (P Q r i : ℕ) → ((r < Q) × (i < P)) ⊎ ((Q ≤ r) ⊎ (P ≤ i))
@@ -28,7 +26,7 @@ module _ (ws : List ℕ) (P Q r i : ℕ) (o : Mode) where
   rows_some x e =
       elim (inside P Q r i) [
         | inl h ↦ (h.0, h.1, sym (rows_in h.0 h.1) ∙ e)
-        | inr h ↦ absurd (some_none _ x e (rows_out h))
+        | inr h ↦ absurd (none-some x (sym (rows_out h) ∙ e))
       ]
 
 pub rows_same : (ws vs : List ℕ) (P Q r i : ℕ) (o : Mode) → (r < Q → i < P → slot_row vs (slot Q r i o) ≡ slot_row ws (slot Q r i o))
@@ -38,9 +36,6 @@ rows_same ws vs P Q r i o h =
       | inl l ↦ rows_in vs P Q r i o l.0 l.1 ∙ h l.0 l.1 ∙ sym (rows_in ws P Q r i o l.0 l.1)
       | inr l ↦ rows_out vs P Q r i o l ∙ sym (rows_out ws P Q r i o l)
     ]
-
-pub rows_within : (ws : List ℕ) (P Q : ℕ) → Within P Q (rows ws P Q)
-rows_within ws P Q r i o h = rows_out ws P Q r i o h
 
 -- words that are zero hold no row
 pub empty_at : (ws : List ℕ) (P Q : ℕ) → ((u : ℕ) → u < 16 * (P * Q) → get_or ws u 0 ≡ 0) → Empty (rows ws P Q)
@@ -71,14 +66,9 @@ puts_at ws vs P Q r i o x h l w =
     }
 
 stays_some : (p i : ℕ) (o : Option Row) (x : Row) → stays p i o ≡ Some x → (o ≡ Some x) × (i + x.reach ≤ p)
-stays_some p i None x e = absurd (some_none _ x e refl)
+stays_some p i None x e = absurd (none-some x e)
 stays_some p i (Some y) x e =
-    elim (cases_Bool (leb (i + y.reach) p)) [
-      | inl t ↦
-          let same : y ≡ x = (let q : ◌≡◌ {A = Option Row} (Some y) (Some x) = rw t at e in cc) in
-          (ap Some same, subst (λ (z : Row). i + z.reach ≤ p) same (leb-true (i + y.reach) p t))
-      | inr f ↦ absurd (some_none _ x e (rw f))
-    ]
+    let s = cond_some (leb (i + y.reach) p) y x e in (ap Some s.1, subst (λ (z : Row). i + z.reach ≤ p) s.1 (leb-true (i + y.reach) p s.0))
 
 stays_kept : (p i : ℕ) (x : Row) → i + x.reach ≤ p → stays p i (Some x) ≡ Some x
 stays_kept p i x h = rw (le-leb (i + x.reach) p h)
@@ -112,7 +102,7 @@ shifts_at ws vs P Q p k m all =
                 let kept = stays_some p (s / w) (F s) x (sym (a.before (omega arith)) ∙ got.2) in
                 inl (record { before = b; untouched = omega (arith, kept.1); held = rows_in ws P Q r i o got.0 got.1 ∙ kept.0 })
             | inr b ↦ elim (origin P p k m (s / w) (omega arith)) [
-              | inl none ↦ absurd (some_none _ x got.2 (a.gone (omega arith) none))
+              | inl none ↦ absurd (none-some x (sym (a.gone (omega arith) none) ∙ got.2))
               | inr some ↦
                   let j = some.0 in
                   let here : F (slot Q r j o) ≡ Some x = ap (λ (l : ℕ). F (j * w + l)) (sym (slot_lane Q r i o got.0)) ∙ sym (a.moved j (omega arith) some.1) ∙ got.2 in

@@ -1,24 +1,25 @@
 -- The ring's entries as a table: a put is a put, a shift a shift, and the entries stay lawful.
-use Rattle.std.proofs.Common.{◌≡◌, ℕ, zero, suc, ◌+◌, ◌-◌, ◌<◌, ◌≤◌, true, false, cond, ◌&&◌, ltb, leb, ◌⊎◌, List, [], ◌∷◌, length, take, is_some, Some, None, Option, sym, refl, ap, ◌∙◌, subst, inl, inr, arith}
-use Rattle.std.proofs.lemmas.Bool.{cases_Bool, and_parts, and_from, ltb-true, leb-true, lt-ltb, le-ltb, le-leb, cond-true, cond-false}
+use Rattle.std.proofs.Common.{◌≡◌, ℕ, zero, suc, ◌+◌, ◌-◌, ◌<◌, ◌≤◌, true, false, ◌&&◌, ltb, leb, ◌⊎◌, List, [], ◌∷◌, length, take, is_some, Some, None, Option, sym, refl, ap, ◌∙◌, subst, inl, inr, arith}
+use Rattle.std.proofs.lemmas.Option.{none-some, same_Some, cond_some}
+use Rattle.std.proofs.lemmas.Bool.{both_ways, cases_Bool, and_parts, and_from, ltb-true, leb-true, lt-ltb, le-ltb, le-leb, cond-true, cond-false}
 use Rattle.std.proofs.lemmas.List.{take_all}
 use Rattle.grammar.specs.declared.expr.Mode.{Mode}
 use Rattle.memo.specs.declared.row.Row.{Row}
 use Rattle.memo.specs.declared.entries.Entry.{Entry}
 use Rattle.memo.specs.Tables.{Table, Within, Puts, Shifts}
 use Rattle.memo.specs.Entries.{names, found, holds, lawful, without, entered, RoomyFor, put_in, rehomed, at_place, shifted}
-use Rattle.memo.proofs.Ordered.{Lawful, lawful_is, lawful_made, names_is, names_same, clash, found_first, found_next, found_behind, found_within, found_take, found_without, gone_without, same_key}
+use Rattle.memo.proofs.Ordered.{Lawful, lawful_is, lawful_made, names_is, names_same, found_first, found_next, found_behind, found_within, found_take, found_without, gone_without, same_key}
 
 none_from : (a b : Option Row) → ((x : Row) → a ≡ Some x → b ≡ Some x) → b ≡ None → a ≡ None
 none_from None b f h = refl
-none_from (Some x) b f h = absurd (clash b x (f x refl) h)
+none_from (Some x) b f h = absurd (none-some x (sym h ∙ f x refl))
 
 sub_without : (e : Entry) (es : List Entry) (r i : ℕ) (o : Mode) (x : Row) → found (without e es) r i o ≡ Some x → found es r i o ≡ Some x
 sub_without e es r i o x h =
-    elim (same_key r i o e.rule e.place e.mode) [
+    elim (same_key r i o e.at.rule e.at.place e.at.mode) [
       | inl s ↦
           let none : found (without e es) r i o ≡ None = rw (s.0, s.1, s.2) (gone_without e es) in
-          absurd (clash _ x h none)
+          absurd (none-some x (sym none ∙ h))
       | inr d ↦ sym (found_without e es r i o d) ∙ h
     ]
 
@@ -30,7 +31,7 @@ lawful_take (suc n) (e ∷ es) h =
     lawful_made e (take n es) (record {
       rule = l.rule;
       place = l.place;
-      alone = none_from _ _ (λ x. found_take n es e.rule e.place e.mode x) l.alone;
+      alone = none_from _ _ (λ x. found_take n es e.at.rule e.at.place e.at.mode x) l.alone;
       rest = lawful_take n es l.rest;
     })
 
@@ -39,23 +40,23 @@ lawful_without e [] h = refl
 lawful_without e (f ∷ fs) h =
     let l = lawful_is f fs h in
     let rest = lawful_without e fs l.rest in
-    elim (cases_Bool (names f e.rule e.place e.mode)) [
+    elim (cases_Bool (names f e.at.rule e.at.place e.at.mode)) [
       | inl t ↦ ap (λ (zs : List Entry). lawful zs) (cond-true _ _ _ t) ∙ rest
       | inr n ↦ ap (λ (zs : List Entry). lawful zs) (cond-false _ _ _ n)
           ∙ lawful_made f (without e fs) (record {
             rule = l.rule;
             place = l.place;
-            alone = none_from _ _ (λ x. sub_without e fs f.rule f.place f.mode x) l.alone;
+            alone = none_from _ _ (λ x. sub_without e fs f.at.rule f.at.place f.at.mode x) l.alone;
             rest = rest;
           })
     ]
 
-lawful_entered : (e : Entry) (es : List Entry) → e.rule < 64 → e.place < 65536 → lawful es ≡ true → lawful (entered e es) ≡ true
+lawful_entered : (e : Entry) (es : List Entry) → e.at.rule < 64 → e.at.place < 65536 → lawful es ≡ true → lawful (entered e es) ≡ true
 lawful_entered e es h l law =
     lawful_made e (take 63 (without e es)) (record {
       rule = h;
       place = l;
-      alone = none_from _ _ (λ x. found_take 63 (without e es) e.rule e.place e.mode x) (gone_without e es);
+      alone = none_from _ _ (λ x. found_take 63 (without e es) e.at.rule e.at.place e.at.mode x) (gone_without e es);
       rest = lawful_take 63 (without e es) (lawful_without e es law);
     })
 
@@ -65,9 +66,9 @@ found_bounds es law r i o out =
 
 -- entering a row is a put
 puts_entered : (es : List Entry) (r i : ℕ) (o : Mode) (x : Row) → r < 64 → i < 65536
-    → Puts false 65536 64 (found es) r i o x (found (entered (record { rule = r; place = i; mode = o; row = x }) es))
+    → Puts false 65536 64 (found es) r i o x (found (entered (record { at = record { rule = r; place = i; mode = o }; row = x }) es))
 puts_entered es r i o x h l =
-    let e : Entry = record { rule = r; place = i; mode = o; row = x } in
+    let e : Entry = record { at = record { rule = r; place = i; mode = o }; row = x } in
     record {
       stands = λ _ _. found_first e (take 63 (without e es)) r i o (refl, refl, refl);
       others = λ r' i' o' y f. elim (same_key r' i' o' r i o) [
@@ -80,7 +81,7 @@ puts_entered es r i o x h l =
             inr (sub_without e es r' i' o' y (found_take 63 (without e es) r' i' o' y (sym (found_next e (take 63 (without e es)) r' i' o' miss) ∙ f)))
       ];
       outside = λ out r' i' o'. absurd (elim out [ inl a ↦ omega arith | inr b ↦ omega arith ]);
-      all = λ t r' i' o' d. let z : ◌≡◌ {A = ℕ} 0 1 = cc in absurd (omega arith);
+      all = λ t r' i' o' d. absurd (both_ways false refl t);
     }
 
 -- others go no further back than there were entries
@@ -88,30 +89,30 @@ length_without : (e : Entry) (es : List Entry) → length (without e es) ≤ len
 length_without e [] = omega arith
 length_without e (f ∷ fs) =
     let rest = length_without e fs in
-    elim (cases_Bool (names f e.rule e.place e.mode)) [
+    elim (cases_Bool (names f e.at.rule e.at.place e.at.mode)) [
       | inl t ↦ subst (λ (zs : List Entry). length zs ≤ suc (length fs)) (sym (cond-true _ _ _ t)) (omega arith)
       | inr n ↦ subst (λ (zs : List Entry). length zs ≤ suc (length fs)) (sym (cond-false _ _ _ n)) (omega arith)
     ]
 
 -- and one less where the key is held
 length_held : (e : Entry) (es : List Entry) → holds es e ≡ true → length (without e es) < length es
-length_held e [] h = let z : ◌≡◌ {A = ℕ} 0 1 = cc in absurd (omega arith)
+length_held e [] h = absurd (both_ways false refl h)
 length_held e (f ∷ fs) h =
-    elim (cases_Bool (names f e.rule e.place e.mode)) [
+    elim (cases_Bool (names f e.at.rule e.at.place e.at.mode)) [
       | inl t ↦
           let rest = length_without e fs in
           subst (λ (zs : List Entry). length zs < suc (length fs)) (sym (cond-true _ _ _ t)) (omega arith)
       | inr n ↦
-          let rest = length_held e fs (sym (ap (λ (x : Option Row). is_some x) (found_next f fs e.rule e.place e.mode n)) ∙ h) in
+          let rest = length_held e fs (sym (ap (λ (x : Option Row). is_some x) (found_next f fs e.at.rule e.at.place e.at.mode n)) ∙ h) in
           subst (λ (zs : List Entry). length zs < suc (length fs)) (sym (cond-false _ _ _ n)) (omega arith)
     ]
 
 -- a put of a held key, or with room for one more, drops no other row
 puts_kept : (es : List Entry) (r i : ℕ) (o : Mode) (x : Row) → r < 64 → i < 65536 → length es ≤ 64
-    → RoomyFor es (record { rule = r; place = i; mode = o; row = x })
-    → Puts true 65536 64 (found es) r i o x (found (entered (record { rule = r; place = i; mode = o; row = x }) es))
+    → RoomyFor es (record { at = record { rule = r; place = i; mode = o }; row = x })
+    → Puts true 65536 64 (found es) r i o x (found (entered (record { at = record { rule = r; place = i; mode = o }; row = x }) es))
 puts_kept es r i o x h l few room =
-    let e : Entry = record { rule = r; place = i; mode = o; row = x } in
+    let e : Entry = record { at = record { rule = r; place = i; mode = o }; row = x } in
     let some = puts_entered es r i o x h l in
     let rest = length_without e es in
     let short : length (without e es) ≤ 63 = elim room [ inl t ↦ omega (arith, length_held e es t) | inr n ↦ omega arith ] in
@@ -129,17 +130,17 @@ puts_kept es r i o x h l few room =
           ∙ found_without e es r' i' o' d;
     }
 
--- an array's front zs that holds the entries after a put
+-- the entries zs after a put
 pub record Put (es zs : List Entry) (r i : ℕ) (o : Mode) (x : Row) : Type 0 where
   pub lawful : lawful zs ≡ true
   pub puts : Puts false 65536 64 (found es) r i o x (found zs)
   pub order : zs ≡ put_in r i o x es
-  pub keeps : length es ≤ 64 → RoomyFor es (record { rule = r; place = i; mode = o; row = x }) → Puts true 65536 64 (found es) r i o x (found zs)
+  pub keeps : length es ≤ 64 → RoomyFor es (record { at = record { rule = r; place = i; mode = o }; row = x }) → Puts true 65536 64 (found es) r i o x (found zs)
 
 pub ring_puts : (es zs : List Entry) (r i : ℕ) (o : Mode) (x : Row) → r < 64 → i < 65536 → lawful es ≡ true
-    → zs ≡ entered (record { rule = r; place = i; mode = o; row = x }) es → Put es zs r i o x
+    → zs ≡ entered (record { at = record { rule = r; place = i; mode = o }; row = x }) es → Put es zs r i o x
 ring_puts es zs r i o x h l law is =
-    let e : Entry = record { rule = r; place = i; mode = o; row = x } in
+    let e : Entry = record { at = record { rule = r; place = i; mode = o }; row = x } in
     subst (λ (ys : List Entry). Put es ys r i o x) (sym is) (record {
       lawful = lawful_entered e es h l law;
       puts = puts_entered es r i o x h l;
@@ -148,8 +149,8 @@ ring_puts es zs r i o x h l law is =
     })
 
 -- what a memory that keeps does, one that need not may do
-pub shifts_weak : (P p k m : ℕ) (T U : Table) → Shifts true P p k m T U → Shifts false P p k m T U
-shifts_weak P p k m T U s = record { only = s.only; all = λ t r i o x may. let z : ◌≡◌ {A = ℕ} 0 1 = cc in absurd (omega arith) }
+shifts_weak : (P p k m : ℕ) (T U : Table) → Shifts true P p k m T U → Shifts false P p k m T U
+shifts_weak P p k m T U s = record { only = s.only; all = λ t r i o x may. absurd (both_ways false refl t) }
 
 module _ (p k m : ℕ) where
   -- the two ways to a new place
@@ -167,24 +168,12 @@ module _ (p k m : ℕ) where
   ways j reach i h =
       elim (cases_Bool (ltb j p)) [
         | inl t ↦
-            let here : cond (leb (j + reach) p) (Some j) None ≡ Some i = sym (cond-true _ _ _ t) ∙ h in
-            elim (cases_Bool (leb (j + reach) p)) [
-              | inl u ↦
-                  let e : ◌≡◌ {A = Option ℕ} (Some j) (Some i) = sym (cond-true _ _ _ u) ∙ here in
-                  inl (record { before = ltb-true j p t; untouched = leb-true (j + reach) p u; same = (cc) })
-              | inr u ↦ absurd (clash _ i here (cond-false _ _ _ u))
-            ]
+            let s = cond_some (leb (j + reach) p) j i (sym (cond-true _ _ _ t) ∙ h) in
+            inl (record { before = ltb-true j p t; untouched = leb-true (j + reach) p s.0; same = sym s.1 })
         | inr f ↦
-            let here : cond (leb (p + k) j && ltb (j - k + m) 65536) (Some (j - k + m)) None ≡ Some i = sym (cond-false _ _ _ f) ∙ h in
-            elim (cases_Bool (leb (p + k) j && ltb (j - k + m) 65536)) [
-              | inl u ↦
-                  let e : ◌≡◌ {A = Option ℕ} (Some (j - k + m)) (Some i) = sym (cond-true _ _ _ u) ∙ here in
-                  let is : i ≡ j - k + m = (cc) in
-                  let both = and_parts (leb (p + k) j) (ltb (j - k + m) 65536) u in
-                  let low = ltb-true (j - k + m) 65536 both.1 in
-                  inr (record { after = leb-true (p + k) j both.0; within = omega arith; to = is })
-              | inr u ↦ absurd (clash _ i here (cond-false _ _ _ u))
-            ]
+            let s = cond_some (leb (p + k) j && ltb (j - k + m) 65536) (j - k + m) i (sym (cond-false _ _ _ f) ∙ h) in
+            let both = and_parts (leb (p + k) j) (ltb (j - k + m) 65536) s.0 in
+            inr (record { after = leb-true (p + k) j both.0; within = omega (arith, ltb-true (j - k + m) 65536 both.1, s.1); to = sym s.1 })
       ]
 
   -- two rows do not come to one place from two
@@ -205,28 +194,27 @@ module _ (p k m : ℕ) where
   came_behind : (e : Entry) (es : List Entry) (r i : ℕ) (o : Mode) (x : Row) → Lawful e es → Came es r i o x → Came (e ∷ es) r i o x
   came_behind e es r i o x l got = (got.0, found_behind e es r got.0 o x l got.1, got.2)
 
-  came_first : (e : Entry) (es : List Entry) (to : Option ℕ) (r i : ℕ) (o : Mode) (x : Row) → Lawful e es → rehomed p k m e.place e.row.reach ≡ to
+  came_first : (e : Entry) (es : List Entry) (to : Option ℕ) (r i : ℕ) (o : Mode) (x : Row) → Lawful e es → rehomed p k m e.at.place e.row.reach ≡ to
       → (found (shifted p k m es) r i o ≡ Some x → Came es r i o x) → found (at_place e to (shifted p k m es)) r i o ≡ Some x → Came (e ∷ es) r i o x
   came_first e es None r i o x l q rest h = came_behind e es r i o x l (rest h)
   came_first e es (Some t) r i o x l q rest h =
-      let f : Entry = record { rule = e.rule; place = t; mode = e.mode; row = e.row } in
+      let f : Entry = record { at = record { rule = e.at.rule; place = t; mode = e.at.mode }; row = e.row } in
       elim (cases_Bool (names f r i o)) [
         | inl u ↦
             let s = names_is f r i o u in
-            let y : ◌≡◌ {A = Option Row} (Some e.row) (Some x) = sym (cond-true _ _ _ u) ∙ h in
-            let is : e.row ≡ x = (cc) in (
-              e.place,
-              found_first e es r e.place o (s.0, refl, s.2) ∙ ap Some is,
-              ap (λ (z : Row). rehomed p k m e.place z.reach) (sym is) ∙ q ∙ ap Some s.1,
+            let is : e.row ≡ x = same_Some e.row x (sym (cond-true _ _ _ u) ∙ h) in (
+              e.at.place,
+              found_first e es r e.at.place o (s.0, refl, s.2) ∙ ap Some is,
+              ap (λ (z : Row). rehomed p k m e.at.place z.reach) (sym is) ∙ q ∙ ap Some s.1,
             )
         | inr u ↦ came_behind e es r i o x l (rest (sym (found_next f (shifted p k m es) r i o u) ∙ h))
       ]
 
   came : (es : List Entry) (r i : ℕ) (o : Mode) (x : Row) → lawful es ≡ true → found (shifted p k m es) r i o ≡ Some x → Came es r i o x
-  came [] r i o x law h = absurd (clash {A = Row} None x h refl)
+  came [] r i o x law h = absurd (none-some x h)
   came (e ∷ es) r i o x law h =
       let l = lawful_is e es law in
-      came_first e es (rehomed p k m e.place e.row.reach) r i o x l refl (came es r i o x l.rest) h
+      came_first e es (rehomed p k m e.at.place e.row.reach) r i o x l refl (came es r i o x l.rest) h
 
   -- a row that may stay or move does
   home_before : (j reach : ℕ) → j < p → j + reach ≤ p → rehomed p k m j reach ≡ Some j
@@ -239,36 +227,34 @@ module _ (p k m : ℕ) where
       ∙ cond-true _ _ _ (and_from _ _ (le-leb (p + k) j h) (lt-ltb (j - k + m) 65536 (omega arith)))
       ∙ ap Some is
 
-  goes_first : (e : Entry) (es : List Entry) (to : Option ℕ) (r j i : ℕ) (o : Mode) (x : Row) → rehomed p k m e.place e.row.reach ≡ to
+  goes_first : (e : Entry) (es : List Entry) (to : Option ℕ) (r j i : ℕ) (o : Mode) (x : Row) → rehomed p k m e.at.place e.row.reach ≡ to
       → rehomed p k m j x.reach ≡ Some i → names e r j o ≡ false → found (shifted p k m es) r i o ≡ Some x
       → found (at_place e to (shifted p k m es)) r i o ≡ Some x
   goes_first e es None r j i o x q h f rest = rest
   goes_first e es (Some t) r j i o x q h f rest =
-      let g : Entry = record { rule = e.rule; place = t; mode = e.mode; row = e.row } in
+      let g : Entry = record { at = record { rule = e.at.rule; place = t; mode = e.at.mode }; row = e.row } in
       elim (cases_Bool (names g r i o)) [
         | inl u ↦
             let s = names_is g r i o u in
-            let same : e.place ≡ j = one_home e.place e.row.reach j x.reach i (q ∙ ap Some s.1) h in
-            let z : ◌≡◌ {A = ℕ} 0 1 = cc (f, names_same e r j o (s.0, same, s.2)) in
-            absurd (omega arith)
+            let same : e.at.place ≡ j = one_home e.at.place e.row.reach j x.reach i (q ∙ ap Some s.1) h in
+            absurd (both_ways _ f (names_same e r j o (s.0, same, s.2)))
         | inr u ↦ found_next g (shifted p k m es) r i o u ∙ rest
       ]
 
   goes : (es : List Entry) (r j i : ℕ) (o : Mode) (x : Row) → found es r j o ≡ Some x → rehomed p k m j x.reach ≡ Some i
       → found (shifted p k m es) r i o ≡ Some x
-  goes [] r j i o x f h = absurd (clash {A = Row} None x f refl)
+  goes [] r j i o x f h = absurd (none-some x f)
   goes (e ∷ es) r j i o x f h =
       elim (cases_Bool (names e r j o)) [
         | inl t ↦
             let s = names_is e r j o t in
-            let y : ◌≡◌ {A = Option Row} (Some e.row) (Some x) = sym (cond-true _ _ _ t) ∙ f in
-            let is : e.row ≡ x = (cc) in
-            let to : rehomed p k m e.place e.row.reach ≡ Some i =
+            let is : e.row ≡ x = same_Some e.row x (sym (cond-true _ _ _ t) ∙ f) in
+            let to : rehomed p k m e.at.place e.row.reach ≡ Some i =
             ap (λ (n : ℕ). rehomed p k m n e.row.reach) s.1 ∙ ap (λ (z : Row). rehomed p k m j z.reach) is ∙ h in
             ap (λ (w : Option ℕ). found (at_place e w (shifted p k m es)) r i o) to
-            ∙ found_first (record { rule = e.rule; place = i; mode = e.mode; row = e.row }) (shifted p k m es) r i o (s.0, refl, s.2)
+            ∙ found_first (record { at = record { rule = e.at.rule; place = i; mode = e.at.mode }; row = e.row }) (shifted p k m es) r i o (s.0, refl, s.2)
             ∙ ap Some is
-        | inr n ↦ goes_first e es (rehomed p k m e.place e.row.reach) r j i o x refl h n (goes es r j i o x (sym (found_next e es r j o n) ∙ f) h)
+        | inr n ↦ goes_first e es (rehomed p k m e.at.place e.row.reach) r j i o x refl h n (goes es r j i o x (sym (found_next e es r j o n) ∙ f) h)
       ]
 
   -- the entries' shift is a shift that drops only what it must
@@ -292,18 +278,18 @@ module _ (p k m : ℕ) where
         ];
       }
 
-  lawful_at : (e : Entry) (es : List Entry) (to : Option ℕ) → Lawful e es → rehomed p k m e.place e.row.reach ≡ to → lawful (shifted p k m es) ≡ true
+  lawful_at : (e : Entry) (es : List Entry) (to : Option ℕ) → Lawful e es → rehomed p k m e.at.place e.row.reach ≡ to → lawful (shifted p k m es) ≡ true
       → lawful (at_place e to (shifted p k m es)) ≡ true
   lawful_at e es None l q rest = rest
   lawful_at e es (Some i) l q rest =
-      let low : i < 65536 = elim (ways e.place e.row.reach i q) [ inl a ↦ omega (arith, a.same, l.place) | inr a ↦ a.within ] in
-      lawful_made (record { rule = e.rule; place = i; mode = e.mode; row = e.row }) (shifted p k m es) (record {
+      let low : i < 65536 = elim (ways e.at.place e.row.reach i q) [ inl a ↦ omega (arith, a.same, l.place) | inr a ↦ a.within ] in
+      lawful_made (record { at = record { rule = e.at.rule; place = i; mode = e.at.mode }; row = e.row }) (shifted p k m es) (record {
         rule = l.rule;
         place = low;
-        alone = none_from (found (shifted p k m es) e.rule i e.mode) None (λ x h.
-            let got = came es e.rule i e.mode x l.rest h in
-            let same : got.0 ≡ e.place = one_home got.0 x.reach e.place e.row.reach i got.2 q in
-            absurd (clash (found es e.rule e.place e.mode) x (ap (λ (n : ℕ). found es e.rule n e.mode) (sym same) ∙ got.1) l.alone)) refl;
+        alone = none_from (found (shifted p k m es) e.at.rule i e.at.mode) None (λ x h.
+            let got = came es e.at.rule i e.at.mode x l.rest h in
+            let same : got.0 ≡ e.at.place = one_home got.0 x.reach e.at.place e.row.reach i got.2 q in
+            absurd (none-some x (sym l.alone ∙ ap (λ (n : ℕ). found es e.at.rule n e.at.mode) (sym same) ∙ got.1))) refl;
         rest = rest;
       })
 
@@ -311,8 +297,21 @@ module _ (p k m : ℕ) where
   lawful_shifted [] law = refl
   lawful_shifted (e ∷ es) law =
       let l = lawful_is e es law in
-      lawful_at e es (rehomed p k m e.place e.row.reach) l refl (lawful_shifted es l.rest)
+      lawful_at e es (rehomed p k m e.at.place e.row.reach) l refl (lawful_shifted es l.rest)
 
-  -- an array's front zs that holds the shifted entries
-  pub ring_shifts : (es zs : List Entry) → lawful es ≡ true → zs ≡ shifted p k m es → (lawful zs ≡ true) × Shifts true 65536 p k m (found es) (found zs)
-  ring_shifts es zs law is = rw is (lawful_shifted es law, shifts_entries es law)
+-- the entries zs after a shift
+pub record Shift (p k m : ℕ) (es zs : List Entry) : Type 0 where
+  pub lawful : lawful zs ≡ true
+  pub shifts : Shifts false 65536 p k m (found es) (found zs)
+  pub order : zs ≡ shifted p k m es
+  pub keeps : Shifts true 65536 p k m (found es) (found zs)
+
+pub ring_shifts : (p k m : ℕ) (es zs : List Entry) → lawful es ≡ true → zs ≡ shifted p k m es → Shift p k m es zs
+ring_shifts p k m es zs law is =
+    let all = shifts_entries p k m es law in
+    subst (λ (ys : List Entry). Shift p k m es ys) (sym is) (record {
+      lawful = lawful_shifted p k m es law;
+      shifts = shifts_weak 65536 p k m (found es) (found (shifted p k m es)) all;
+      order = refl;
+      keeps = all;
+    })

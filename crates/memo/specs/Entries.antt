@@ -14,7 +14,7 @@ same_mode Off Off = true
 
 -- the entry is of this key
 abbrev pub names : Entry → ℕ → ℕ → Mode → Bool
-names e r i o = e.rule == r && (e.place == i && same_mode e.mode o)
+names e r i o = e.at.rule == r && (e.at.place == i && same_mode e.at.mode o)
 
 -- the row of the newest entry of a key
 abbrev pub found : List Entry → Table
@@ -23,17 +23,17 @@ found (e ∷ es) r i o = cond (names e r i o) (Some e.row) (found es r i o)
 
 -- an entry of that key is among them
 abbrev pub holds : List Entry → Entry → Bool
-holds es e = is_some (found es e.rule e.place e.mode)
+holds es e = is_some (found es e.at.rule e.at.place e.at.mode)
 
 -- rules are below 64, places below 65,536, and no two entries have one key
 abbrev pub lawful : List Entry → Bool
 lawful [] = true
-lawful (e ∷ es) = (nat_lt e.rule 64 && nat_lt e.place 65536) && (not (holds es e) && lawful es)
+lawful (e ∷ es) = (nat_lt e.at.rule 64 && nat_lt e.at.place 65536) && (not (holds es e) && lawful es)
 
 -- the entries of other keys, in their order
 abbrev pub without : Entry → List Entry → List Entry
 without e [] = []
-without e (f ∷ fs) = cond (names f e.rule e.place e.mode) (without e fs) (f ∷ without e fs)
+without e (f ∷ fs) = cond (names f e.at.rule e.at.place e.at.mode) (without e fs) (f ∷ without e fs)
 
 -- a put: the entry is the one put last, its key's old one goes, and of a 64th other the one put longest ago
 abbrev pub entered : Entry → List Entry → List Entry
@@ -45,7 +45,7 @@ RoomyFor es e = (holds es e ≡ true) ⊎ (length es < 64)
 
 -- a put of a row: nothing happens outside
 abbrev pub put_in : ℕ → ℕ → Mode → Row → List Entry → List Entry
-put_in r i o x es = cond (nat_lt r 64 && nat_lt i 65536) (entered (record { rule = r; place = i; mode = o; row = x }) es) es
+put_in r i o x es = cond (nat_lt r 64 && nat_lt i 65536) (entered (record { at = record { rule = r; place = i; mode = o }; row = x }) es) es
 
 -- where a row at place i with this reach stands once k elements at p have become m
 abbrev pub rehomed : ℕ → ℕ → ℕ → ℕ → ℕ → Option ℕ
@@ -55,9 +55,9 @@ rehomed p k m i reach =
 -- an entry at its new place in front of the others, or gone
 abbrev pub at_place : Entry → Option ℕ → List Entry → List Entry
 at_place e None es = es
-at_place e (Some i) es = record { rule = e.rule; place = i; mode = e.mode; row = e.row } ∷ es
+at_place e (Some i) es = record { at = record { rule = e.at.rule; place = i; mode = e.at.mode }; row = e.row } ∷ es
 
 -- a shift keeps the order
 abbrev pub shifted : ℕ → ℕ → ℕ → List Entry → List Entry
 shifted p k m [] = []
-shifted p k m (e ∷ es) = at_place e (rehomed p k m e.place e.row.reach) (shifted p k m es)
+shifted p k m (e ∷ es) = at_place e (rehomed p k m e.at.place e.row.reach) (shifted p k m es)

@@ -2,7 +2,7 @@
 -- all that a user of the whole memory knows of it is that a row is handed back as it was put, and that no key's words are another's.
 use Rattle.std.specs.Prelude.{◌≡◌, ℕ, ◌+◌, ◌-◌, ◌*◌, ◌/◌, ◌%◌, ◌^◌, ◌<◌, ◌≤◌, cond, ◌&&◌, ◌⊎◌, List, length, Some, None, Option, ◌==◌, nat_le, nat_lt, slice_index}
 use Rattle.grammar.specs.declared.expr.Mode.{Mode}
-use Rattle.grammar.specs.declared.expr.Mode.TheVariants.{On, Off}
+use Rattle.grammar.specs.Marks.{mode_bit}
 use Rattle.memo.specs.declared.row.Row.{Row}
 use Rattle.memo.specs.Tables.{Table}
 
@@ -46,12 +46,16 @@ pub record Written (ws : List ℕ) (s : ℕ) (x : Option Row) (vs : List ℕ) : 
 
 -- the two modes of a rule lie side by side
 abbrev pub lane : ℕ → Mode → ℕ
-lane r On = 2 * r
-lane r Off = 2 * r + 1
+lane r o = 2 * r + mode_bit o
 
 -- the slot of a key, where there are Q rules: a place's slots lie side by side
 abbrev pub slot : ℕ → ℕ → ℕ → Mode → ℕ
 slot Q r i o = i * (2 * Q) + lane r o
+
+-- the slot of a key within P and Q, and none of another
+abbrev pub Slotted : ℕ → ℕ → ℕ → ℕ → Mode → Option ℕ → Type 0
+Slotted P Q r i o None = (Q ≤ r) ⊎ (P ≤ i)
+Slotted P Q r i o (Some s) = (r < Q) × (i < P) × (s ≡ slot Q r i o)
 
 -- the table that words hold for P places and Q rules
 abbrev pub rows : List ℕ → ℕ → ℕ → Table

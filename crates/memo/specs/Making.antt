@@ -1,5 +1,5 @@
 -- The whole memory: the questions that making one asks, and what its fields mean.
-use Rattle.std.specs.Prelude.{◌≡◌, ℕ, ◌*◌, ◌≤◌, cond, ◌↔◌, List, length, Ok, Err, Result, nat_le}
+use Rattle.std.specs.Prelude.{◌≡◌, ℕ, ◌*◌, ◌≤◌, ◌↔◌, List, Ok, Err, Result}
 use Rattle.memo.specs.declared.whole.WholeMemory.{WholeMemory}
 use Rattle.memo.specs.declared.whole.Refusal.{Refusal}
 use Rattle.memo.specs.declared.whole.Refusal.TheVariants.{Size, Words}
@@ -35,20 +35,16 @@ pub record Asked (P Q n : ℕ) (r : Result Unit Refusal) : Type 0 where
   pub words : Refuses r 16 ↔ (Sized P Q × (Roomy P Q n → ⊥))
   pub made : Accepts r ↔ (Sized P Q × Roomy P Q n)
 
--- x, or 0 were n words too few for p places and q rules
-abbrev pub fitting : ℕ → ℕ → ℕ → ℕ → ℕ
-fitting x n p q = cond (nat_le (16 * (p * q)) n) x 0
-
 -- the words that a whole memory holds
 abbrev pub words_of : WholeMemory → List ℕ
 words_of s = s.words.now
 
 -- its P and Q
 abbrev pub p_of : WholeMemory → ℕ
-p_of s = fitting s.places (length (words_of s)) s.places s.rules
+p_of s = s.places
 
 abbrev pub q_of : WholeMemory → ℕ
-q_of s = fitting s.rules (length (words_of s)) s.places s.rules
+q_of s = s.rules
 
 -- and its table
 abbrev pub table_of : WholeMemory → Table

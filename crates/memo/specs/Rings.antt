@@ -1,5 +1,5 @@
 -- What a ring means: the list of its entries, the one put last first, and the table that follows from it.
-use Rattle.std.specs.Prelude.{ℕ, List, take}
+use Rattle.std.specs.Prelude.{ℕ, List}
 use Rattle.memo.specs.declared.entries.Entry.{Entry}
 use Rattle.memo.specs.declared.ring.state.Ring.{Ring}
 use Rattle.memo.specs.Tables.{Table}
@@ -7,7 +7,7 @@ use Rattle.memo.specs.Entries.{found}
 
 -- its entries, in the order put
 abbrev pub model : Ring → List Entry
-model s = take s.count s.entries
+model s = s.entries.items
 
 -- the row of a key is that of its entry
 abbrev pub ring_table : Ring → Table

@@ -1,113 +1,65 @@
-//! Entries of the ring, the one put last first, in the front of an array.
-ghost use Rattle.std.specs.Prelude.{◌≡◌, ◌+◌, ◌-◌, ◌<◌, ◌≤◌, true, take};
-ghost use Rattle.memo.specs.Entries.{names, found, lawful, entered, rehomed, shifted};
+//! Entries of the ring, the one put last first.
+ghost use Rattle.std.specs.Prelude.{◌≡◌, ◌≤◌, [], ◌∷◌, cond, length};
+ghost use Rattle.memo.specs.Entries.{found, entered, rehomed, at_place, shifted};
 
+use crate::change::Change;
 use crate::row::Row;
-use grammar::expr::Mode;
+use arrayvec::ArrayVec;
+use peg::results::RulePlace;
 
 /// A ring's P and Q.
 pub const PLACES: usize = 65536;
 
 pub const RULES: usize = 64;
 
-/// A key with its row.
-#[derive(Clone, Copy)]
+/// A rule-place with its row.
+#[derive(Clone, Copy, Default)]
 pub struct Entry {
-    pub rule: usize,
-    pub place: usize,
-    pub mode: Mode,
+    pub at: RulePlace,
     pub row: Row,
 }
 
 impl Entry {
-    /// Whether it is of this key.
-    pub(crate) fn is(&self, rule: usize, place: usize, mode: Mode) -> bool
-        ensures { result ≡ names self.now rule place mode }
+    /// Follows the change to where the row stands then. Gives whether it stands anywhere.
+    pub(crate) fn follow(&mut self, change: Change) -> bool
+        ensures { cond result (self.new ∷ []) [] ≡ at_place self.old (rehomed change.p change.k change.m self.old.at.place self.old.row.reach) [] }
     {
-        self.rule == rule && self.place == place && self.mode == mode
-    }
-}
-
-/// The row of the newest entry of a key.
-pub(crate) fn find(entries: &[Entry], rule: usize, place: usize, mode: Mode) -> Option<Row>
-    ensures { result ≡ found entries.now rule place mode }
-{
-    for e in entries {
-        if e.is(rule, place, mode) {
-            return Some(e.row);
+        match change.home(self.at.place, self.row.reach) {
+            Some(place) => {
+                self.at.place = place;
+                true
+            }
+            None => false,
         }
     }
-    None
 }
 
-/// Puts an entry in front: each other goes one back, up to the old one of its key, or the one put longest ago.
-/// Gives how many there are now.
-pub(crate) fn enter(entries: &mut [Entry; 64], count: usize, new: Entry) -> usize
-    requires few { count ≤ 64 }
-    requires lawful { lawful (take count entries.old) ≡ true }
-    ensures entered { take result entries.new ≡ entered new (take count entries.old) }
-    ensures few { result ≤ 64 }
+/// The row of the entry of a rule-place.
+pub(crate) fn find(entries: &[Entry], at: RulePlace) -> Option<Row>
+    ensures { result ≡ found entries.now at.rule at.place at.mode }
 {
-    let mut carried = new;
-    for j in 0..count {
-        let old = entries[j];
-        entries[j] = carried;
-        if old.is(new.rule, new.place, new.mode) {
-            return count;
-        }
-        carried = old;
-    }
-    if count == 64 {
-        return count;
-    }
-    entries[count] = carried;
-    count + 1
+    entries
+        .iter()
+        .find(|entry| entry.at == at)
+        .map(|entry| entry.row)
 }
 
-/// Where a row stands once k elements at p have become m.
-fn home(place: usize, reach: u32, p: usize, k: usize, m: usize) -> Option<usize>
-    ensures { result ≡ rehomed p k m place reach }
+/// Puts an entry in front. The old one of its rule-place goes, or of 64 others the one put longest ago.
+pub(crate) fn enter(entries: &mut ArrayVec<Entry, 64>, new: Entry)
+    ensures entered { entries.new.items ≡ entered new entries.old.items }
+    ensures few { length entries.new.items ≤ 64 }
 {
-    if place < p {
-        return if reach as usize <= p - place {
-            Some(place)
-        } else {
-            None
-        };
+    entries.retain(|entry| entry.at != new.at);
+    if entries.is_full() {
+        entries.pop();
     }
-    if place - p < k {
-        return None;
-    }
-    match (place - k).checked_add(m) {
-        Some(to) if to < PLACES => Some(to),
-        _ => None,
-    }
+    entries.insert(0, new);
 }
 
-/// Keeps, moves and drops entries, in their order. Gives how many are left.
-pub(crate) fn shift_all(
-    entries: &mut [Entry; 64],
-    count: usize,
-    p: usize,
-    k: usize,
-    m: usize,
-) -> usize
-    requires { count ≤ 64 }
-    ensures shifted { take result entries.new ≡ shifted p k m (take count entries.old) }
-    ensures few { result ≤ count }
+/// Keeps, moves and drops entries, in their order.
+pub(crate) fn shift_all(entries: &mut ArrayVec<Entry, 64>, change: Change)
+    ensures shifted { entries.new.items ≡ shifted change.p change.k change.m entries.old.items }
+    ensures few { length entries.new.items ≤ length entries.old.items }
 {
-    let mut fill = 0;
-    for j in 0..count {
-        let entry = entries[j];
-        if let Some(place) = home(entry.place, entry.row.reach, p, k, m) {
-            entries[fill] = Entry {
-                rule: entry.rule,
-                place,
-                mode: entry.mode,
-                row: entry.row,
-            };
-            fill += 1;
-        }
-    }
-    fill
+    entries.retain(|entry| entry.follow(change));
 }

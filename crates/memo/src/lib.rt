@@ -2,6 +2,7 @@
 #![tactic(auto)]
 
 mod cells;
+mod change;
 mod entries;
 pub mod memory;
 pub mod ring;

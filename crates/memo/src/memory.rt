@@ -3,10 +3,11 @@ ghost use Rattle.std.specs.Prelude.{◌≡◌, ℕ, Bool};
 ghost use Rattle.memo.specs.Tables.{Table, Within, Puts, Shifts, Empty};
 
 use crate::row::Row;
-use grammar::expr::Mode;
+use peg::results::RulePlace;
 
 /// A memory means a table from rules, places and modes to rows; places below P and rules below Q have one.
 /// P and Q are fixed: every call leaves them as they were.
+// That P and Q stay is a clause of each call: a fact of before and after is no invariant of a type.
 pub trait Memory {
     /// The row, if any, of a rule at a place in a mode.
     ghost table: { Self → Table };
@@ -26,14 +27,14 @@ pub trait Memory {
     fn rules(&self) -> usize
         ensures { result ≡ Q self.now };
 
-    /// The row of the key, for every rule and place; it changes nothing.
-    fn look(&self, rule: usize, place: usize, mode: Mode) -> Option<Row>
-        ensures row { result ≡ table self.now rule place mode }
+    /// The row of the rule-place, for every rule and place; it changes nothing.
+    fn look(&self, at: RulePlace) -> Option<Row>
+        ensures row { result ≡ table self.now at.rule at.place at.mode }
         ensures within { Within (P self.now) (Q self.now) (table self.now) };
 
-    /// Makes the row stand at its key. A memory that forgets may drop others.
-    fn put(&mut self, rule: usize, place: usize, mode: Mode, row: Row)
-        ensures puts { Puts keeps (P self.old) (Q self.old) (table self.old) rule place mode row (table self.new) }
+    /// Makes the row stand at its rule-place. A memory that forgets may drop others.
+    fn put(&mut self, at: RulePlace, row: Row)
+        ensures puts { Puts keeps (P self.old) (Q self.old) (table self.old) at.rule at.place at.mode row (table self.new) }
         ensures places { P self.new ≡ P self.old }
         ensures rules { Q self.new ≡ Q self.old };
 

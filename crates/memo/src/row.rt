@@ -3,7 +3,8 @@
 /// What a rule gave at a place; places are distances from the row's own.
 ///
 /// A failure has no recoveries whatever its numbers hold, and a row without a note has no marks.
-#[derive(Clone, Copy, PartialEq, Eq, Debug)]
+// Flags and no Option or Outcome: the memory trait hands out plain numbers, and whatever they are, they are a row.
+#[derive(Clone, Copy, PartialEq, Eq, Debug, Default)]
 pub struct Row {
     /// A match, or a failure.
     pub matched: bool,

@@ -5,6 +5,7 @@ ghost use Rattle.memo.specs.Layout.{lower, upper, unpacked, slot_row, Written};
 use crate::row::Row;
 
 /// What a slot's first half-word says: nothing held, or a row that failed or matched.
+// Numbers and no enum: the words' own format, in which a cleared word says that nothing is held and any other number is read as a failure.
 const NONE: u16 = 0;
 
 const FAILED: u16 = 1;
@@ -23,6 +24,7 @@ fn high(w: u32) -> u16
     (w >> 16) as u16
 }
 
+// two functions and no generic one: a trait over both widths would be longer than they are
 fn joined(high: u16, low: u16) -> u32
     ensures { result ≡ high * 65536 + low }
 {
@@ -90,17 +92,7 @@ pub(crate) fn read(words: &[u32], s: usize) -> Option<Row>
     requires { 8 * s + 8 ≤ length words.now }
     ensures { result ≡ slot_row words.now s }
 {
-    let b = 8 * s;
-    decode([
-        words[b],
-        words[b + 1],
-        words[b + 2],
-        words[b + 3],
-        words[b + 4],
-        words[b + 5],
-        words[b + 6],
-        words[b + 7],
-    ])
+    decode(*words[8 * s..].first_chunk()?)
 }
 
 /// Makes slot s hold the row, or none.
@@ -108,9 +100,5 @@ pub(crate) fn write(words: &mut [u32], s: usize, row: Option<Row>)
     requires { 8 * s + 8 ≤ length words.old }
     ensures { Written words.old s row words.new }
 {
-    let slot = encode(row);
-    let b = 8 * s;
-    for j in 0..8 {
-        words[b + j] = slot[j];
-    }
+    words[8 * s..8 * s + 8].copy_from_slice(&encode(row));
 }

@@ -4,6 +4,7 @@ use crate::ring::Ring;
 use crate::row::Row;
 use crate::whole::{Refusal, WholeMemory};
 use grammar::expr::Mode;
+use peg::results::RulePlace;
 use std::process::Abort;
 
 /// A row that can be told from others by its end, with this reach; the rest is as large as it goes.
@@ -23,12 +24,17 @@ fn row(end: u16, reach: u32) -> Row {
     }
 }
 
+/// A rule at a place in a mode.
+const fn at(rule: usize, place: usize, mode: Mode) -> RulePlace {
+    RulePlace { rule, place, mode }
+}
+
 /// The ends of the rows of rule 0 at places 0 to 7; 0 where there is none.
 fn ends<M: Memory>(memory: &M) -> [u16; 8] {
     let mut ends = [0; 8];
-    for place in 0..8 {
-        if let Some(row) = memory.look(0, place, Mode::On) {
-            ends[place] = row.end;
+    for (place, end) in ends.iter_mut().enumerate() {
+        if let Some(row) = memory.look(at(0, place, Mode::On)) {
+            *end = row.end;
         }
     }
     ends
@@ -39,7 +45,7 @@ fn stand<M: Memory>(memory: &mut M) {
     memory.empty();
     for place in 0..8u16 {
         let reach = if place < 3 { 2 } else { 1 };
-        memory.put(0, usize::from(place), Mode::On, row(place + 1, reach));
+        memory.put(at(0, usize::from(place), Mode::On), row(place + 1, reach));
     }
 }
 
@@ -99,29 +105,27 @@ fn ring_follows_changes(rt: HostRuntime) {
 fn whole_keeps_rows_exactly(rt: HostRuntime) {
     let mut words = [7; 40];
     let (mut memory, _) = WholeMemory::new(&mut words, 1, 2);
-    memory.put(1, 0, Mode::On, row(65535, 65536));
+    memory.put(at(1, 0, Mode::On), row(65535, 65536));
     memory.put(
-        1,
-        0,
-        Mode::Off,
+        at(1, 0, Mode::Off),
         Row {
             matched: false,
             ..row(0, 1)
         },
     );
-    memory.put(2, 0, Mode::On, row(1, 1));
-    memory.put(1, 1, Mode::On, row(1, 1));
-    assert_eq!(rt; memory.look(1, 0, Mode::On), Some(row(65535, 65536)));
+    memory.put(at(2, 0, Mode::On), row(1, 1));
+    memory.put(at(1, 1, Mode::On), row(1, 1));
+    assert_eq!(rt; memory.look(at(1, 0, Mode::On)), Some(row(65535, 65536)));
     assert_eq!(rt;
-        memory.look(1, 0, Mode::Off),
+        memory.look(at(1, 0, Mode::Off)),
         Some(Row {
             matched: false,
             ..row(0, 1)
         })
     );
-    assert_eq!(rt; memory.look(0, 0, Mode::On), None);
-    assert_eq!(rt; memory.look(2, 0, Mode::On), None);
-    assert_eq!(rt; memory.look(1, 1, Mode::On), None);
+    assert_eq!(rt; memory.look(at(0, 0, Mode::On)), None);
+    assert_eq!(rt; memory.look(at(2, 0, Mode::On)), None);
+    assert_eq!(rt; memory.look(at(1, 1, Mode::On)), None);
     drop(memory);
     assert_eq!(rt; words[32], 7);
 }
@@ -149,16 +153,16 @@ fn whole_refuses(rt: HostRuntime) {
 fn ring_drops_the_oldest(rt: HostRuntime) {
     let mut memory = Ring::new();
     for place in 0..64 {
-        memory.put(0, place, Mode::On, row(1, 1));
+        memory.put(at(0, place, Mode::On), row(1, 1));
     }
-    memory.put(0, 0, Mode::On, row(2, 1));
+    memory.put(at(0, 0, Mode::On), row(2, 1));
     assert_eq!(rt; ends(&memory), [2, 1, 1, 1, 1, 1, 1, 1]);
-    memory.put(0, 0, Mode::Off, row(3, 1));
+    memory.put(at(0, 0, Mode::Off), row(3, 1));
     assert_eq!(rt; ends(&memory), [2, 0, 1, 1, 1, 1, 1, 1]);
-    memory.put(63, 65535, Mode::On, row(4, 1));
+    memory.put(at(63, 65535, Mode::On), row(4, 1));
     assert_eq!(rt; ends(&memory), [2, 0, 0, 1, 1, 1, 1, 1]);
-    memory.put(63, 65536, Mode::On, row(5, 1));
+    memory.put(at(63, 65536, Mode::On), row(5, 1));
     memory.shift(0, 0, 1);
     assert_eq!(rt; ends(&memory), [0, 2, 0, 0, 1, 1, 1, 1]);
-    assert_eq!(rt; memory.look(63, 65535, Mode::On), None);
+    assert_eq!(rt; memory.look(at(63, 65535, Mode::On)), None);
 }

@@ -1,13 +1,11 @@
 //! The whole memory: a slot for every rule, place and mode, in lent words. It forgets nothing.
-ghost use Rattle.std.specs.Prelude.{◌≡◌, ◌*◌, ◌^◌, ◌<◌, ◌≤◌, true, length};
-ghost use Rattle.memo.specs.Tables.{Puts, Shifts, Empty};
-ghost use Rattle.memo.specs.Layout.{Beyond};
-ghost use Rattle.memo.specs.Making.{Asked, Hands, fitting, words_of, p_of, q_of, table_of, own};
+ghost use Rattle.std.specs.Prelude.{◌≡◌, ◌*◌, ◌≤◌, length};
 
-use crate::cells::{empty_in, look_in, put_in, shift_in};
+use crate::change::Change;
 use crate::memory::Memory;
 use crate::row::Row;
-use grammar::expr::Mode;
+use crate::slots::{read, write};
+use peg::results::RulePlace;
 
 /// Why no whole memory could be made.
 #[derive(Clone, Copy, PartialEq, Eq, Debug)]
@@ -18,44 +16,48 @@ pub enum Refusal {
     Words,
 }
 
+impl From<Refusal> for u8 {
+    ghost use Rattle.memo.specs.Making.{number};
+
+    ghost from_gives = { λ e n. n ≡ number e };
+
+    fn from(refusal: Refusal) -> u8 {
+        match refusal {
+            Refusal::Size => 15,
+            Refusal::Words => 16,
+        }
+    }
+}
+
 /// A table of P places and Q rules in lent words. How rows lie in them is its own affair.
+// P and Q stand beside the words: these are lent, and may be more than 16 × P × Q.
 #[derive(Drop)]
 pub struct WholeMemory<'a> {
-    words: &'a mut [u32],
-    places: u32,
-    rules: u8,
-}
-
-/// The questions of making, in order.
-fn asked(len: usize, places: usize, rules: usize) -> Result<(), Refusal>
-    ensures { Asked places rules len result }
-{
-    if places == 0 || places > 65536 || rules == 0 || rules > 64 {
-        return Err(Refusal::Size);
-    }
-    if len < 16 * (places * rules) {
-        return Err(Refusal::Words);
-    }
-    Ok(())
-}
-
-/// P and Q: none where the words are too few, which no made memory's are.
-fn extent(len: usize, places: u32, rules: u8) -> (usize, usize)
-    ensures places { result.0 ≡ fitting places len places rules }
-    ensures rules { result.1 ≡ fitting rules len places rules }
-    ensures room { 16 * (result.0 * result.1) ≤ len }
-    ensures few { result.1 < 2 ^ 32 }
-{
-    let (places, rules) = (places as usize, rules as usize);
-    if 16 * (places * rules) <= len {
-        (places, rules)
-    } else {
-        (0, 0)
-    }
+    pub(crate) words: &'a mut [u32],
+    pub(crate) places: usize,
+    pub(crate) rules: usize,
+    ghost room: { 16 * (places * rules) ≤ length words.now },
+    ghost few: { rules ≤ 64 },
 }
 
 impl<'a> WholeMemory<'a> {
+    ghost use Rattle.memo.specs.Making.{Asked, Hands};
+
+    /// The questions of making, in order.
+    fn asked(len: usize, places: usize, rules: usize) -> Result<(), Refusal>
+        ensures { Asked places rules len result }
+    {
+        if places == 0 || places > 65536 || rules == 0 || rules > 64 {
+            return Err(Refusal::Size);
+        }
+        if len < 16 * (places * rules) {
+            return Err(Refusal::Words);
+        }
+        Ok(())
+    }
+
     /// A memory for P places and Q rules that holds no row, and Ok; or one for none, and why.
+    // The memory stands beside its answer: a refused making gives one too, with P and Q 0.
     pub fn new(
         words: &'a mut [u32],
         places: usize,
@@ -65,29 +67,34 @@ impl<'a> WholeMemory<'a> {
         ensures hands { Hands result.1 places rules words.old result.0 }
         ensures lent { result.0.words.ghost_name ≡ words.entry.ghost_name }
     {
-        match asked(words.len(), places, rules) {
+        match WholeMemory::asked(words.len(), places, rules) {
             Ok(()) => {
-                empty_in(words, places, rules);
-                let memory = WholeMemory {
+                let mut memory = WholeMemory {
                     words,
-                    places: places as u32,
-                    rules: rules as u8,
+                    places,
+                    rules,
                 };
+                memory.empty();
                 (memory, Ok(()))
             }
-            Err(refusal) => (
-                WholeMemory {
+            Err(refusal) => {
+                let memory = WholeMemory {
                     words,
                     places: 0,
                     rules: 0,
-                },
-                Err(refusal),
-            ),
+                };
+                (memory, Err(refusal))
+            }
         }
     }
 }
 
 impl Memory for WholeMemory<'_> {
+    ghost use Rattle.std.specs.Prelude.{true};
+    ghost use Rattle.memo.specs.Tables.{Puts, Shifts, Empty};
+    ghost use Rattle.memo.specs.Layout.{Beyond};
+    ghost use Rattle.memo.specs.Making.{words_of, p_of, q_of, table_of, own};
+
     ghost table = { table_of };
 
     ghost P = { p_of };
@@ -97,27 +104,28 @@ impl Memory for WholeMemory<'_> {
     ghost keeps = { true };
 
     fn places(&self) -> usize {
-        extent(self.words.len(), self.places, self.rules).0
+        self.places
     }
 
     fn rules(&self) -> usize {
-        extent(self.words.len(), self.places, self.rules).1
+        self.rules
     }
 
-    fn look(&self, rule: usize, place: usize, mode: Mode) -> Option<Row> {
-        let (places, rules) = extent(self.words.len(), self.places, self.rules);
-        look_in(self.words, places, rules, rule, place, mode)
+    fn look(&self, at: RulePlace) -> Option<Row> {
+        read(self.words, self.slot_of(at)?)
     }
 
-    fn put(&mut self, rule: usize, place: usize, mode: Mode, row: Row)
-        ensures puts { Puts true (p_of self.old) (q_of self.old) (table_of self.old) rule place mode row (table_of self.new) }
+    // here and below: clauses of an impl's own replace the trait's, so the trait's stand here again
+    fn put(&mut self, at: RulePlace, row: Row)
+        ensures puts { Puts true (p_of self.old) (q_of self.old) (table_of self.old) at.rule at.place at.mode row (table_of self.new) }
         ensures places { p_of self.new ≡ p_of self.old }
         ensures rules { q_of self.new ≡ q_of self.old }
         ensures beyond { Beyond (own self.old) (words_of self.old) (words_of self.new) }
         ensures lent { self.new.words.ghost_name ≡ self.old.words.ghost_name }
     {
-        let (places, rules) = extent(self.words.len(), self.places, self.rules);
-        put_in(self.words, places, rules, rule, place, mode, row);
+        if let Some(s) = self.slot_of(at) {
+            write(self.words, s, Some(row));
+        }
     }
 
     fn shift(&mut self, p: usize, k: usize, m: usize)
@@ -127,8 +135,14 @@ impl Memory for WholeMemory<'_> {
         ensures beyond { Beyond (own self.old) (words_of self.old) (words_of self.new) }
         ensures lent { self.new.words.ghost_name ≡ self.old.words.ghost_name }
     {
-        let (places, rules) = extent(self.words.len(), self.places, self.rules);
-        shift_in(self.words, places, rules, p, k, m);
+        let change = Change { p, k, m };
+        let n = 2 * self.rules * self.places;
+        // by turns: a loop for each direction would say the step twice
+        for t in 0..n {
+            let s = change.turn(n, t);
+            let row = self.after(s, change);
+            write(self.words, s, row);
+        }
     }
 
     fn empty(&mut self)
@@ -138,7 +152,7 @@ impl Memory for WholeMemory<'_> {
         ensures beyond { Beyond (own self.old) (words_of self.old) (words_of self.new) }
         ensures lent { self.new.words.ghost_name ≡ self.old.words.ghost_name }
     {
-        let (places, rules) = extent(self.words.len(), self.places, self.rules);
-        empty_in(self.words, places, rules);
+        let own = 16 * (self.places * self.rules);
+        self.words[..own].fill(0);
     }
 }

@@ -1,14 +1,14 @@
-//! What a ring holds: entries in the front of its array, the one put last first.
-ghost use Rattle.std.specs.Prelude.{◌≡◌, ◌≤◌, true, take};
+//! What a ring holds: its entries, the one put last first.
+ghost use Rattle.std.specs.Prelude.{◌≡◌, ◌≤◌, true, length};
 ghost use Rattle.memo.specs.Entries.{lawful};
 
 use crate::entries::Entry;
+use arrayvec::ArrayVec;
 
-/// The 64 rows put last. Its entries are the first `count` of the array.
+/// The 64 rows put last.
 #[derive(Drop)]
 pub struct Ring {
-    pub(super) entries: [Entry; 64],
-    pub(super) count: usize,
-    ghost few: { count ≤ 64 },
-    ghost lawful: { lawful (take count entries) ≡ true },
+    pub(super) entries: ArrayVec<Entry, 64>,
+    ghost few: { length entries.items ≤ 64 },
+    ghost lawful: { lawful entries.items ≡ true },
 }

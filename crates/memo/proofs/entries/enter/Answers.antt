@@ -1,54 +1,27 @@
-use Rattle.std.proofs.Common.{◌≡◌, ℕ, suc, ◌+◌, ◌-◌, ◌<◌, true, length, take, ◌∙◌, subst, arith, length-set}
-use Rattle.memo.specs.Entries.{lawful}
-use Rattle.memo.proofs.Ordered.{wrote_back, goes_on, none_yet, enters_full, enters_new, enters_at}
+use Rattle.std.proofs.Common.{◌≡◌, ◌≤◌, not, List, ◌∷◌, length, take, ap, sym, ◌∙◌, inl, inr, rules, arith}
+use Rattle.std.proofs.lemmas.Bool.{cases_lt, eqb-false}
+use Rattle.std.proofs.lemmas.List.{take_all}
+use Rattle.arrayvec.specs.ArrayVec.{ArrayVec}
+use Rattle.arrayvec.proofs.ArrayVecLemmas.{filter-from_retain}
+use Rattle.memo.specs.declared.entries.Entry.{Entry}
+use Rattle.memo.specs.Entries.{without}
+use Rattle.memo.proofs.Ordered.{of_rule_place, without_filter}
 use Rattle.memo.proofs.entries.enter.Goals as goal
+use Rattle.memo.proofs.entries.enter.Goals.{then-is_full, else-is_full}
 
-pub returns-then-is : goal.returns-then-is
-returns-then-is c =
-    let xs = c.args.entries.now in
-    let ys = c.loop-j.entries in
-    let j = c.loop-j.j in
-    let n = c.args.count in
-    let m : ℕ = n - j - 1 in
-    let is : n ≡ j + suc m = omega arith in
-    record {
-      entered = enters_at c.args.new xs ys j m c.loop-j.carried (omega arith) c.told-entries c.loop-j.invariant.3
-          (subst (λ (z : ℕ). lawful (take z xs) ≡ true) is c.requires.lawful) c.loop-j.invariant.2 c.loop-j.invariant.0 c.loop-j.invariant.1
-          c.if-is.ensures n is;
-      few = c.requires.few;
-    }
-
-pub loop-j-preserved : goal.loop-j-preserved
-loop-j-preserved c =
+pub returns-clause-entered : goal.returns-clause-entered
+returns-clause-entered c =
     let e = c.args.new in
-    let xs = c.args.entries.now in
-    let ys = c.loop-j.entries in
-    let j = c.loop-j.j in
-    let hand = c.loop-j.carried in
-    let long : length ys ≡ length xs = c.loop-j.invariant.3 in
-    let low : j < length ys = omega (arith, c.told-entries) in (
-      goes_on e xs ys j hand low long c.loop-j.invariant.0 c.loop-j.invariant.1,
-      wrote_back e xs ys j hand low long c.loop-j.invariant.0 c.loop-j.invariant.1,
-      none_yet e xs ys j hand low long c.loop-j.invariant.0 c.loop-j.invariant.1 c.loop-j.invariant.2 c.if-is.ensures,
-      length-set ys j hand ∙ long,
-    )
-
-pub returns-then-count-eq64 : goal.returns-then-count-eq64
-returns-then-count-eq64 c =
-    let n = c.args.count in
-    let all : c.loop-j.j ≡ n = omega arith in
-    record {
-      entered = enters_full c.args.new c.args.entries.now c.loop-j.entries n c.loop-j.carried c.requires.few c.told-entries c.loop-j.invariant.3
-          (rw (← all) c.loop-j.invariant.2) (rw (← all) c.loop-j.invariant.0) (rw (← all) c.loop-j.invariant.1) (omega arith);
-      few = c.requires.few;
-    }
-
-pub returns : goal.returns
-returns c =
-    let n = c.args.count in
-    let all : c.loop-j.j ≡ n = omega arith in
-    record {
-      entered = enters_new c.args.new c.args.entries.now c.loop-j.entries n c.loop-j.carried c.requires.few c.told-entries c.loop-j.invariant.3
-          (rw (← all) c.loop-j.invariant.2) (rw (← all) c.loop-j.invariant.0) (rw (← all) c.loop-j.invariant.1) (omega arith);
-      few = omega arith;
-    }
+    let es = c.args.entries.now.items in
+    let others = c.retain.new.self.items in
+    let kept : others ≡ without e es = filter-from_retain _ (λ x. not (of_rule_place x e.at)) _ (λ x b f' y h. search rules) es others c.retain.ensures.filtered ∙ without_filter e es in
+    let rest : c.if-is_full.entries.items ≡ take 63 others = elim c.if-is_full.branch [
+      | then-is_full w ↦ search rules
+      | else-is_full w ↦
+          let short : length others ≤ 63 = elim (cases_lt (length others) 64) [
+            | inl h ↦ omega arith
+            | inr h ↦ absurd (eqb-false (length others) 64 (sym w.if-is_full.ensures.value) (omega (arith, c.is_full.ensures.fits)))
+          ] in
+          ap (λ (v : ArrayVec Entry). v.items) w.entries-is ∙ sym (take_all 63 others short)
+    ] in
+    c.insert.ensures.items ∙ ap (λ (zs : List Entry). e ∷ zs) (rest ∙ ap (λ (zs : List Entry). take 63 zs) kept)

@@ -1,16 +1,17 @@
-use Rattle.std.proofs.Common.{sym, ◌∙◌, arith}
-use Rattle.std.proofs.lemmas.Bool.{cond-true, cond-false}
-use Rattle.memo.proofs.Ordered.{found_more, found_all}
+use Rattle.std.proofs.Common.{◌≡◌, Option, Bor, ap, ◌∙◌, rules}
+use borrow.Author.Tests.{tests}
+use Rattle.std.specs.List.{find}
+use Rattle.std.specs.Option.{option_map}
+use Rattle.std.proofs.lemmas.Iterator.{YieldsList-from_slice}
+use Rattle.std.proofs.lemmas.Iterator.Search.{find_from_yields_List}
+use Rattle.memo.specs.declared.entries.Entry.{Entry}
+use Rattle.memo.proofs.Ordered.{of_rule_place, found_find}
 use Rattle.memo.proofs.entries.find.Goals as goal
-
-pub returns-then-is : goal.returns-then-is
-returns-then-is c =
-    sym (c.loop-e.invariant ∙ found_more c.args.rule c.args.place c.args.mode c.args.entries.now c.loop-e.e-index (omega arith) ∙ cond-true _ _ _ (sym c.if-is.ensures))
-
-pub loop-e-preserved : goal.loop-e-preserved
-loop-e-preserved c =
-    c.loop-e.invariant ∙ found_more c.args.rule c.args.place c.args.mode c.args.entries.now c.loop-e.e-index (omega arith) ∙ cond-false _ _ _ (sym c.if-is.ensures)
 
 pub returns : goal.returns
 returns c =
-    sym (c.loop-e.invariant ∙ found_all c.args.rule c.args.place c.args.mode c.args.entries.now c.loop-e.e-index (omega arith))
+    let es = c.args.entries.now in
+    let first : option_map (λ (x : Bor Entry). x.now) c.find.result ≡ find (λ e. of_rule_place e c.args.at) es =
+    find_from_yields_List (λ e. of_rule_place e c.args.at) _ _ c.find.result c.find.ensures.ran (YieldsList-from_slice es cc) (λ x b q k. search (rules, tests)) in
+    let row : c.map.result ≡ option_map (λ (e : Entry). e.row) (option_map (λ (x : Bor Entry). x.now) c.find.result) = search rules in
+    row ∙ ap (λ (x : Option Entry). option_map (λ (e : Entry). e.row) x) first ∙ found_find es c.args.at
