@@ -12,10 +12,13 @@ use Rattle.peg.specs.declared.results.Reading.{Reading}
 use Rattle.peg.specs.Rules.{unmarked}
 use Rattle.peg.specs.Readings.{read_alone, read_deeper, read_predicate, read_recovery}
 use Rattle.reading.specs.declared.refusal.Refusal.{Refusal}
-use Rattle.engine.specs.declared.frame.Frame.{Frame}
+use Rattle.engine.specs.declared.step.Ask.{Ask}
 use Rattle.engine.specs.Frames.{mode_by, mode_number, fresh_frame}
-use Rattle.reading.specs.Reads.{Setting, Store, Res, expression, rule, each, read_terminal, Fits, Reads}
-use Rattle.engine.specs.Machine.{Sane, Called, First, One, Round, Last, ResumeAs, AwaitsAs, digit_as, Ahead, Sound, Opened}
+use Rattle.reading.specs.Reads.{Setting, Store, Res, expression, each, read_terminal, Fits, Reads}
+use Rattle.memo.specs.declared.row.Row.{Row}
+use Rattle.engine.specs.Finding.{Found}
+use Rattle.engine.proofs.Finding.{found_reads, found_gives}
+use Rattle.engine.specs.Machine.{Sane, Called, First, One, Round, Last, ResumeAs, AwaitsAs, digit_as, Ahead, Sound, Opened, Entered, opens_with}
 
 pub mode_back : (m : Mode) → mode_by (mode_number m) ≡ m
 mode_back On = refl
@@ -23,25 +26,41 @@ mode_back Off = refl
 
 recovers_on : (g : Peg) (l e : ℕ) (m : Mode) → recovers_lem g l m ≡ Some e → g.recovery l ≡ Some e
 recovers_on g l e On p = p
-recovers_on g l e Off p = let z : ◌≡◌ {A = ℕ} 0 1 = cc in absurd (omega arith)
+recovers_on g l e Off p = cc
 
-module _ (G : Setting) (sane : Sane G) (T : Store) (h e i : ℕ) (m : Mode) (level : h < G.frames) (known : e < G.grammar.N) (place : i ≤ G.size) where
+-- what is asked may be begun below h open expressions: the setting is sane, and has a frame left
+pub record Begins (G : Setting) (h : ℕ) (ask : Ask) : Type 0 where
+  pub sane : Sane G
+  pub level : h < G.frames
+  pub known : ask.expression < G.grammar.N
+  pub place : ask.place ≤ G.size
+
+module _ {G : Setting} {h : ℕ} {ask : Ask} (here : Begins G h ask) (T : Store) where
+  abbrev e : ℕ
+  e = ask.expression
+
+  abbrev i : ℕ
+  i = ask.place
+
+  abbrev m : Mode
+  m = ask.mode
+
   refers : (x : Expr) → G.grammar.expr e ≡ x → Refers G.grammar x
-  refers x p = subst (Refers G.grammar) p (sane.whole.1 e known)
+  refers x p = subst (Refers G.grammar) p (here.sane.whole.1 e here.known)
 
   -- the expression x is opened with its part a in mode o
   opens : (x : Expr) (a : ℕ) (o : Mode) → G.grammar.expr e ≡ x → a < G.grammar.N → AwaitsAs G (fresh_frame e i m) m x 0 a i o → digit_as G.size x 0 i ≤ G.size + 2
       → ((r : Res) (U : Store) (r2 : Res) (W : Store) → Reads G (h + 1) T (expression a) i o r U → ResumeAs G h (fresh_frame e i m) m x 0 r U r2 W → Reads G h T (expression e) i m r2 W)
       → Opened G T h e i m (fresh_frame e i m) a i o
   opens x a o p low part small back = record {
-    level = level;
+    level = here.level;
     known = low;
-    place = place;
+    place = here.place;
     of = (refl, refl, mode_back m);
     awaits = record {
-      known = known;
+      known = here.known;
       start = omega arith;
-      within = place;
+      within = here.place;
       note = tt;
       first = omega arith;
       reach = omega arith;
@@ -53,66 +72,66 @@ module _ (G : Setting) (sane : Sane G) (T : Store) (h e i : ℕ) (m : Mode) (lev
   }
 
   sequence_back : {a b : ℕ} {r r2 : Res} {U W : Store} → G.grammar.expr e ≡ Sequence a b → Reads G (h + 1) T (expression a) i m r U → First G h b m r U r2 W → Reads G h T (expression e) i m r2 W
-  sequence_back p reads First.refused = Reads.sequence_refused level p reads
-  sequence_back p reads (First.fails q) = Reads.sequence_fails level p reads q
-  sequence_back p reads (First.goes q rest) = Reads.sequence_goes_on level p reads q rest
+  sequence_back p reads First.refused = Reads.sequence_refused here.level p reads
+  sequence_back p reads (First.fails q) = Reads.sequence_fails here.level p reads q
+  sequence_back p reads (First.goes q rest) = Reads.sequence_goes_on here.level p reads q rest
 
-  pub open_sequence : (a b : ℕ) → G.grammar.expr e ≡ Sequence a b → Opened G T h e i m (fresh_frame e i m) a i m
-  open_sequence a b p = opens (Sequence a b) a m p (refers (Sequence a b) p).0 (refl, refl, refl) (omega arith) (λ r U r2 W reads o. sequence_back p reads o)
+  pub open_sequence : {a b : ℕ} → G.grammar.expr e ≡ Sequence a b → Entered G T h e i m (Ok (opens_with ask a m))
+  open_sequence {a} {b} p = opens (Sequence a b) a m p (refers (Sequence a b) p).0 (refl, refl, refl) (omega arith) (λ r U r2 W reads o. sequence_back p reads o)
 
   choice_back : {a b s : ℕ} {r r2 : Res} {U W : Store} → G.grammar.expr e ≡ Choice a b s → Reads G (h + 1) T (expression a) i m r U → One G h b s i m r U r2 W → Reads G h T (expression e) i m r2 W
-  choice_back p reads One.refused = Reads.choice_refused level p reads
-  choice_back p reads (One.stays q) = Reads.choice_stays level p reads q
-  choice_back p reads (One.turns q rest) = Reads.choice_turns level p reads q rest
+  choice_back p reads One.refused = Reads.choice_refused here.level p reads
+  choice_back p reads (One.stays q) = Reads.choice_stays here.level p reads q
+  choice_back p reads (One.turns q rest) = Reads.choice_turns here.level p reads q rest
 
-  pub open_choice : (a b s : ℕ) → G.grammar.expr e ≡ Choice a b s → Opened G T h e i m (fresh_frame e i m) a i m
-  open_choice a b s p = opens (Choice a b s) a m p (refers (Choice a b s) p).0 (refl, refl, refl) (omega arith) (λ r U r2 W reads o. choice_back p reads o)
+  pub open_choice : {a b s : ℕ} → G.grammar.expr e ≡ Choice a b s → Entered G T h e i m (Ok (opens_with ask a m))
+  open_choice {a} {b} {s} p = opens (Choice a b s) a m p (refers (Choice a b s) p).0 (refl, refl, refl) (omega arith) (λ r U r2 W reads o. choice_back p reads o)
 
   each_same : (r : Res) → each (λ v. v) r ≡ r
   each_same (Ok v) = refl
   each_same (Err z) = refl
 
   repetition_back : {a : ℕ} {r r2 : Res} {U W : Store} → G.grammar.expr e ≡ Repetition a → Reads G (h + 1) T (expression a) i m r U → Round G h e i m (λ v. v) r U r2 W → Reads G h T (expression e) i m r2 W
-  repetition_back p reads Round.refused = Reads.repetition_refused level p reads
-  repetition_back p reads (Round.ends q) = Reads.repetition_ends level p reads q
-  repetition_back p reads (Round.fails q) = Reads.repetition_fails level p reads q
+  repetition_back p reads Round.refused = Reads.repetition_refused here.level p reads
+  repetition_back p reads (Round.ends q) = Reads.repetition_ends here.level p reads q
+  repetition_back p reads (Round.fails q) = Reads.repetition_fails here.level p reads q
   repetition_back p reads (Round.goes {U = W} {r = r} q rest) =
-      subst (λ (x : Res). Reads G h T (expression e) i m x W) (sym (each_same _)) (Reads.repetition_goes_on level p reads q rest)
+      subst (λ (x : Res). Reads G h T (expression e) i m x W) (sym (each_same _)) (Reads.repetition_goes_on here.level p reads q rest)
 
-  pub open_repetition : (a : ℕ) → G.grammar.expr e ≡ Repetition a → Opened G T h e i m (fresh_frame e i m) a i m
-  open_repetition a p = opens (Repetition a) a m p (refers (Repetition a) p) (refl, refl, refl) (omega arith) (λ r U r2 W reads o. repetition_back p reads o)
+  pub open_repetition : {a : ℕ} → G.grammar.expr e ≡ Repetition a → Entered G T h e i m (Ok (opens_with ask a m))
+  open_repetition {a} p = opens (Repetition a) a m p (refers (Repetition a) p) (refl, refl, refl) (omega arith) (λ r U r2 W reads o. repetition_back p reads o)
 
   predicate_back : {a : ℕ} {r r2 : Res} {U W : Store} → G.grammar.expr e ≡ Predicate a → Reads G (h + 1) T (expression a) i Off r U → Last (read_predicate i) r U r2 W → Reads G h T (expression e) i m r2 W
-  predicate_back p reads Last.gives = Reads.predicate level p reads
+  predicate_back p reads Last.gives = Reads.predicate here.level p reads
 
-  pub open_predicate : (a : ℕ) → G.grammar.expr e ≡ Predicate a → Opened G T h e i m (fresh_frame e i m) a i Off
-  open_predicate a p = opens (Predicate a) a Off p (refers (Predicate a) p) (refl, refl, refl) (omega arith) (λ r U r2 W reads o. predicate_back p reads o)
+  pub open_predicate : {a : ℕ} → G.grammar.expr e ≡ Predicate a → Entered G T h e i m (Ok (opens_with ask a Off))
+  open_predicate {a} p = opens (Predicate a) a Off p (refers (Predicate a) p) (refl, refl, refl) (omega arith) (λ r U r2 W reads o. predicate_back p reads o)
 
   throw_back : {l a : ℕ} {r r2 : Res} {U W : Store} → G.grammar.expr e ≡ Throw l → recovers_lem G.grammar l m ≡ Some a → Reads G (h + 1) T (expression a) i On r U → Last (read_recovery l i) r U r2 W → Reads G h T (expression e) i m r2 W
-  throw_back p q reads Last.gives = Reads.throw_recovers level p q reads
+  throw_back p q reads Last.gives = Reads.throw_recovers here.level p q reads
 
-  pub open_throw : (l a : ℕ) → G.grammar.expr e ≡ Throw l → recovers_lem G.grammar l m ≡ Some a → Opened G T h e i m (fresh_frame e i m) a i On
-  open_throw l a p q = opens (Throw l) a On p (refers (Throw l) p a (recovers_on G.grammar l a m q)) (q, refl, refl) (omega arith) (λ r U r2 W reads o. throw_back p q reads o)
+  pub open_throw : {l a : ℕ} → G.grammar.expr e ≡ Throw l → recovers_lem G.grammar l m ≡ Some a → Entered G T h e i m (Ok (opens_with ask a On))
+  open_throw {l} {a} p q = opens (Throw l) a On p (refers (Throw l) p a (recovers_on G.grammar l a m q)) (q, refl, refl) (omega arith) (λ r U r2 W reads o. throw_back p q reads o)
 
   call_back : {k : ℕ} {r r2 : Res} {U W : Store} → G.grammar.expr e ≡ Call k → T.rows k i m ≡ None → Reads G (h + 1) T (expression (G.grammar.body k)) i m r U → Called G k i m r U r2 W → Reads G h T (expression e) i m r2 W
-  call_back p none reads Called.refused = Reads.call level p (Reads.body_refused none reads)
-  call_back p none reads (Called.gives stores) = Reads.call level p (Reads.body_gives none reads stores)
+  call_back p none reads Called.refused = Reads.call here.level p (Reads.body_refused none reads)
+  call_back p none reads (Called.gives stores) = Reads.call here.level p (Reads.body_gives none reads stores)
 
-  pub open_call : (k : ℕ) → G.grammar.expr e ≡ Call k → T.rows k i m ≡ None → Opened G T h e i m (fresh_frame e i m) (G.grammar.body k) i m
-  open_call k p none =
-      opens (Call k) (G.grammar.body k) m p (sane.whole.0 k (refers (Call k) p)) (refl, refl, refl) (omega arith) (λ r U r2 W reads o. call_back p none reads o)
+  pub open_call : {k : ℕ} → G.grammar.expr e ≡ Call k → T.rows k i m ≡ None → Entered G T h e i m (Ok (opens_with ask (G.grammar.body k) m))
+  open_call {k} p none =
+      opens (Call k) (G.grammar.body k) m p (here.sane.whole.0 k (refers (Call k) p)) (refl, refl, refl) (omega arith) (λ r U r2 W reads o. call_back p none reads o)
 
   pub give_empty : G.grammar.expr e ≡ Empty → Sound G h e i m (read_alone i (Match i) None) × Reads G h T (expression e) i m (Ok (read_alone i (Match i) None)) T
   give_empty p = (
     record {
-      outcome = (omega arith, place);
+      outcome = (omega arith, here.place);
       nothing = λ q. ∣ subst (Nullable G.grammar m) (sym p) by_empty ∣₁;
       note = tt;
       first = omega arith;
       reach = omega arith;
       level = omega arith;
     },
-    Reads.empty level p,
+    Reads.empty here.level p,
   )
 
   never_equal : {A : Type 0} (x : ℕ) → Match (x + 1) ≡ Match x → A
@@ -123,21 +142,21 @@ module _ (G : Setting) (sane : Sane G) (T : Store) (h e i : ℕ) (m : Mode) (lev
       let low : i < G.size = inside refl in
       record { outcome = (omega arith, omega arith); nothing = λ q. never_equal i q; note = tt; first = omega arith; reach = omega arith; level = omega arith }
   terminal_sound false c inside =
-      record { outcome = place; nothing = λ q. let z : ◌≡◌ {A = ℕ} 0 1 = cc in absurd (omega arith); note = place; first = omega arith; reach = omega arith; level = omega arith }
+      record { outcome = here.place; nothing = λ q. cc; note = here.place; first = omega arith; reach = omega arith; level = omega arith }
 
-  pub give_terminal : (a b c : ℕ) → G.grammar.expr e ≡ Terminal a b c
+  pub give_terminal : {a b c : ℕ} → G.grammar.expr e ≡ Terminal a b c
       → Sound G h e i m (read_terminal (G.text a b i) c i) × Reads G h T (expression e) i m (Ok (read_terminal (G.text a b i) c i)) T
-  give_terminal a b c p = (terminal_sound (G.text a b i) c (sane.inside a b i), Reads.terminal level p)
+  give_terminal {a} {b} {c} p = (terminal_sound (G.text a b i) c (here.sane.inside a b i), Reads.terminal here.level p)
 
-  pub give_throw : (l : ℕ) → G.grammar.expr e ≡ Throw l → recovers_lem G.grammar l m ≡ None
+  pub give_throw : {l : ℕ} → G.grammar.expr e ≡ Throw l → recovers_lem G.grammar l m ≡ None
       → Sound G h e i m (read_alone i (Failure l i) (unmarked i)) × Reads G h T (expression e) i m (Ok (read_alone i (Failure l i) (unmarked i))) T
-  give_throw l p q = (
-    record { outcome = place; nothing = λ s. let z : ◌≡◌ {A = ℕ} 0 1 = cc in absurd (omega arith); note = place; first = omega arith; reach = omega arith; level = omega arith },
-    Reads.throw_fails level p q,
+  give_throw p q = (
+    record { outcome = here.place; nothing = λ s. cc; note = here.place; first = omega arith; reach = omega arith; level = omega arith },
+    Reads.throw_fails here.level p q,
   )
 
-  found_sound : (k : ℕ) (v : Reading) → G.grammar.expr e ≡ Call k → Ahead i G.size v.outcome → Fits G k i m v → h + 1 + v.depth ≤ G.frames → Sound G h e i m (read_deeper v)
-  found_sound k v p ahead fit deep = record {
+  found_sound : {k : ℕ} {v : Reading} → G.grammar.expr e ≡ Call k → Ahead i G.size v.outcome → Fits G k i m v → h + 1 + v.depth ≤ G.frames → Sound G h e i m (read_deeper v)
+  found_sound p ahead fit deep = record {
     outcome = ahead;
     nothing = λ q. ∥∥₁_map (fit.nothing q).1 (λ d. subst (Nullable G.grammar m) (sym p) (by_call d));
     note = fit.note;
@@ -146,22 +165,12 @@ module _ (G : Setting) (sane : Sane G) (T : Store) (h e i : ℕ) (m : Mode) (lev
     level = omega arith;
   }
 
-  -- a call whose rule is found in the memory gives what the row tells
-  pub give_found : (k : ℕ) (v : Reading) → G.grammar.expr e ≡ Call k → Ahead i G.size v.outcome → Fits G k i m v → h + 1 + v.depth ≤ G.frames
-      → Reads G (h + 1) T (rule k) i m (Ok v) T
+  -- a call whose rule is found in the memory gives what the row tells, or is refused with it
+  pub give_found : {k : ℕ} {x : Row} {v : Reading} → G.grammar.expr e ≡ Call k → T.rows k i m ≡ Some x → Found G (h + 1) k i m x (Ok v)
       → Sound G h e i m (read_deeper v) × Reads G h T (expression e) i m (Ok (read_deeper v)) T
-  give_found k v p ahead fit deep reads = (found_sound k v p ahead fit deep, Reads.call level p reads)
+  give_found {k} {x} {v} p q found =
+      let f = found_gives G (h + 1) k i m x v found in
+      (found_sound p f.0 f.1 f.2, Reads.call here.level p (found_reads G T (h + 1) k i m x (Ok v) q found))
 
-  pub refuse_found : (k : ℕ) (z : Refusal) → G.grammar.expr e ≡ Call k → Reads G (h + 1) T (rule k) i m (Err z) T → Reads G h T (expression e) i m (Err z) T
-  refuse_found k z p reads = Reads.call level p reads
-
--- what the code makes is what the lemmas speak of
-module _ (G : Setting) (T : Store) (h e i : ℕ) (m : Mode) where
-  pub opened_as : (a j : ℕ) (o : Mode) (f x : Frame) → f ≡ x → Opened G T h e i m x a j o → Opened G T h e i m f a j o
-  opened_as a j o f x p w = subst (λ (y : Frame). Opened G T h e i m y a j o) (sym p) w
-
-  pub part_as : (f : Frame) (a b j : ℕ) (o : Mode) → a ≡ b → Opened G T h e i m f b j o → Opened G T h e i m f a j o
-  part_as f a b j o p w = subst (λ (y : ℕ). Opened G T h e i m f y j o) (sym p) w
-
-  pub given_as : (x y : Reading) → x ≡ y → Sound G h e i m y × Reads G h T (expression e) i m (Ok y) T → Sound G h e i m x × Reads G h T (expression e) i m (Ok x) T
-  given_as x y p w = subst (λ (z : Reading). Sound G h e i m z × Reads G h T (expression e) i m (Ok z) T) (sym p) w
+  pub refuse_found : {k : ℕ} {x : Row} {z : Refusal} → G.grammar.expr e ≡ Call k → T.rows k i m ≡ Some x → Found G (h + 1) k i m x (Err z) → Reads G h T (expression e) i m (Err z) T
+  refuse_found {k} {x} {z} p q found = Reads.call here.level p (found_reads G T (h + 1) k i m x (Err z) q found)

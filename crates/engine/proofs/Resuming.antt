@@ -1,5 +1,5 @@
 -- A frame is handed what its part gave: each kind goes on as its relation says.
-use Rattle.std.proofs.Common.{◌≡◌, ℕ, zero, suc, ◌+◌, ◌<◌, ◌≤◌, min, max, Bool, true, false, cond, eqb, Some, None, Ok, Err, Option, sym, refl, ap, ◌∙◌, subst, subst₂, arith}
+use Rattle.std.proofs.Common.{◌≡◌, ℕ, zero, suc, ◌+◌, ◌<◌, ◌≤◌, max, Bool, true, false, cond, eqb, Some, None, Ok, Err, Option, sym, refl, ap, ◌∙◌, subst, subst₂, arith}
 use mathlib.Core.HLevel.{⊥_prop}
 use mathlib.Core.Logic.{∥∥₁_map, ∥∥₁_map₂, ∥∥₁_elim}
 use Prim.Native.Nat.{compare, Ordering}
@@ -18,15 +18,10 @@ use Rattle.peg.specs.Rules.{join, farther, caught, denied, denied_note, unmarked
 use Rattle.peg.specs.Summaries.{added}
 use Rattle.peg.specs.Readings.{matched_only, read_deeper, read_sequence, read_other, read_end, read_round, read_predicate, read_recovery}
 use Rattle.peg.proofs.Readings.{readings}
-use Rattle.memo.specs.declared.row.Row.{Row}
-use Rattle.memo.specs.Tables.{Puts}
 use Rattle.engine.specs.declared.frame.Frame.{Frame}
-use Rattle.engine.specs.Frames.{mode_by, note_by, noted_number, noted_at, noted_marks, so_far, going_on}
-use Rattle.reading.specs.Reads.{Setting, Store, Res, expression, each, row_of, place_of, most_fresh, NoteWithin, Stores, Reads}
-use Rattle.engine.specs.Machine.{Sane, joined, rounds, read_unmatched, finish, Called, First, One, Round, Last, ResumeAs, Resume, Ahead, Sound, AwaitsAs, digit_as, Continued, Awaiting, Handed, Shallow, Fine}
-
-clash : {A : Type 0} {o : Outcome} {j l p : ℕ} → o ≡ Match j → o ≡ Failure l p → A
-clash p q = let z : ◌≡◌ {A = ℕ} 0 1 = cc in absurd (omega arith)
+use Rattle.engine.specs.Frames.{mode_by, note_by, noted_number, noted_at, so_far, going_on}
+use Rattle.reading.specs.Reads.{noted_marks, Setting, Store, Res, expression, each, row_of, NoteWithin, Stores, Reads}
+use Rattle.engine.specs.Machine.{Sane, joined, rounds, read_unmatched, finish, Called, First, One, Round, Last, ResumeAs, Resume, Ahead, Sound, AwaitsAs, digit_as, Continued, Awaiting}
 
 -- what a frame keeps of its finished parts
 
@@ -114,7 +109,7 @@ ahead_end i n j o p a = subst (Ahead i n) p a
 note_at : (G : Setting) (f : Frame) (j : ℕ) (v : Reading) → NoteWithin G.size v.note → NoteWithin G.size (so_far (going_on f j v)).note
 note_at G f j v h = subst (NoteWithin G.size) (sym (note_back v.note)) h
 
-module _ (G : Setting) (sane : Sane G) (T : Store) (h : ℕ) (f : Frame) (v : Reading) (w : Awaiting G h f v) where
+module _ {G : Setting} (sane : Sane G) (T : Store) {h : ℕ} {f : Frame} {v : Reading} (w : Awaiting G h f v) where
   waits : (x : Expr) (s : ℕ) → G.grammar.expr f.expression ≡ x → f.stage ≡ s → AwaitsAs G f (mode_by f.mode) x s w.part w.place w.mode
   waits x s p q = subst₂ (λ (y : Expr) (t : ℕ). AwaitsAs G f (mode_by f.mode) y t w.part w.place w.mode) p q w.awaits.part
 
@@ -124,9 +119,6 @@ module _ (G : Setting) (sane : Sane G) (T : Store) (h : ℕ) (f : Frame) (v : Re
 
   refers : (x : Expr) → G.grammar.expr f.expression ≡ x → Refers G.grammar x
   refers x p = subst (Refers G.grammar) p (sane.whole.1 f.expression w.awaits.known)
-
-  pub no_leaf : (x : Expr) → G.grammar.expr f.expression ≡ x → AwaitsAs G f (mode_by f.mode) x f.stage w.part w.place w.mode
-  no_leaf x p = waits x f.stage p refl
 
   level : h < G.frames
   level = let l = w.sound.level in omega arith
@@ -155,9 +147,9 @@ module _ (G : Setting) (sane : Sane G) (T : Store) (h : ℕ) (f : Frame) (v : Re
 
   -- calls
 
-  pub call_gives : (k : ℕ) (U : Store) → G.grammar.expr f.expression ≡ Call k → Stores G T k f.place (mode_by f.mode) (row_of f.place v) U
+  pub call_gives : {k : ℕ} {U : Store} → G.grammar.expr f.expression ≡ Call k → Stores G T k f.place (mode_by f.mode) (row_of f.place v) U
       → Sound G h f.expression f.place (mode_by f.mode) (read_deeper v) × Resume G h f (Ok v) T (Ok (read_deeper v)) U
-  call_gives k U p stores =
+  call_gives {k} {U} p stores =
       let at = waits (Call k) f.stage p refl in (
         deeper_sound at.1 (λ q. as_own (Call k) p (part_nothing (G.grammar.body k) (mode_by f.mode) at.0 at.2 (q ∙ ap Match (sym at.1))) by_call),
         resumes (Call k) f.stage (Ok v) (Ok (read_deeper v)) T U p refl (Called.gives stores),
@@ -165,18 +157,18 @@ module _ (G : Setting) (sane : Sane G) (T : Store) (h : ℕ) (f : Frame) (v : Re
 
   -- sequences
 
-  pub first_fails : (a b l p : ℕ) → G.grammar.expr f.expression ≡ Sequence a b → f.stage ≡ 0 → v.outcome ≡ Failure l p
+  pub first_fails : {a b l p : ℕ} → G.grammar.expr f.expression ≡ Sequence a b → f.stage ≡ 0 → v.outcome ≡ Failure l p
       → Sound G h f.expression f.place (mode_by f.mode) (read_deeper v) × Resume G h f (Ok v) T (Ok (read_deeper v)) T
-  first_fails a b l p e s q =
+  first_fails {a} {b} {l} {p} e s q =
       let at = waits (Sequence a b) 0 e s in
-      (deeper_sound at.1 (λ t. clash t q), resumes (Sequence a b) 0 (Ok v) (Ok (read_deeper v)) T T e s (First.fails q))
+      (deeper_sound at.1 (λ t. cc), resumes (Sequence a b) 0 (Ok v) (Ok (read_deeper v)) T T e s (First.fails q))
 
   last_as : (a b : Reading → Reading) → ((x : Reading) → a x ≡ b x) → (P : Res → Store → Type 0) {r r2 : Res} {U W : Store} → Last a r U r2 W → P (each b r) U → P r2 W
   last_as a b same P {r} {U = U} Last.gives x = subst (λ (y : Res). P y U) (sym (each_same a b same r)) x
 
-  pub first_goes : (a b j : ℕ) → G.grammar.expr f.expression ≡ Sequence a b → f.stage ≡ 0 → v.outcome ≡ Match j
+  pub first_goes : {a b j : ℕ} → G.grammar.expr f.expression ≡ Sequence a b → f.stage ≡ 0 → v.outcome ≡ Match j
       → Continued G T T h f v (going_on f j v) b j (mode_by f.mode)
-  first_goes a b j e s q =
+  first_goes {a} {b} {j} e s q =
       let at = waits (Sequence a b) 0 e s in
       let end = ahead_end w.place G.size j v.outcome q w.sound.outcome in
       let same = so_far_back f j v q in
@@ -220,9 +212,9 @@ module _ (G : Setting) (sane : Sane G) (T : Store) (h : ℕ) (f : Frame) (v : Re
         resumes (Sequence a b) (suc s) (Ok v) (Ok (read_sequence (so_far f) v)) T T e q Last.gives,
       )
 
-  pub second_gives : (a b : ℕ) → G.grammar.expr f.expression ≡ Sequence a b → (f.stage ≡ 0 → ⊥)
+  pub second_gives : {a b : ℕ} → G.grammar.expr f.expression ≡ Sequence a b → (f.stage ≡ 0 → ⊥)
       → Sound G h f.expression f.place (mode_by f.mode) (read_sequence (so_far f) v) × Resume G h f (Ok v) T (Ok (read_sequence (so_far f) v)) T
-  second_gives a b e q = go f.stage refl
+  second_gives {a} {b} e q = go f.stage refl
     where
       go : (s : ℕ) → f.stage ≡ s → Sound G h f.expression f.place (mode_by f.mode) (read_sequence (so_far f) v) × Resume G h f (Ok v) T (Ok (read_sequence (so_far f) v)) T
       go zero t = absurd (q t)
@@ -230,17 +222,17 @@ module _ (G : Setting) (sane : Sane G) (T : Store) (h : ℕ) (f : Frame) (v : Re
 
   -- choices
 
-  pub one_stays : (a b c : ℕ) → G.grammar.expr f.expression ≡ Choice a b c → f.stage ≡ 0 → caught G.grammar c v.outcome ≡ false
+  pub one_stays : {a b c : ℕ} → G.grammar.expr f.expression ≡ Choice a b c → f.stage ≡ 0 → caught G.grammar c v.outcome ≡ false
       → Sound G h f.expression f.place (mode_by f.mode) (read_deeper v) × Resume G h f (Ok v) T (Ok (read_deeper v)) T
-  one_stays a b c e s q =
+  one_stays {a} {b} {c} e s q =
       let at = waits (Choice a b c) 0 e s in (
         deeper_sound at.1 (λ t. as_own (Choice a b c) e (part_nothing a (mode_by f.mode) at.0 at.2 (t ∙ ap Match (sym at.1))) by_first),
         resumes (Choice a b c) 0 (Ok v) (Ok (read_deeper v)) T T e s (One.stays q),
       )
 
-  pub one_turns : (a b c : ℕ) → G.grammar.expr f.expression ≡ Choice a b c → f.stage ≡ 0 → caught G.grammar c v.outcome ≡ true
+  pub one_turns : {a b c : ℕ} → G.grammar.expr f.expression ≡ Choice a b c → f.stage ≡ 0 → caught G.grammar c v.outcome ≡ true
       → Continued G T T h f v (going_on f f.place v) b f.place (mode_by f.mode)
-  one_turns a b c e s q =
+  one_turns {a} {b} {c} e s q =
       let start = w.awaits.start in
       let within = w.awaits.within in
       record {
@@ -278,9 +270,9 @@ module _ (G : Setting) (sane : Sane G) (T : Store) (h : ℕ) (f : Frame) (v : Re
         resumes (Choice a b c) (suc s) (Ok v) (Ok (read_other (so_far f) v)) T T e q Last.gives,
       )
 
-  pub other_gives : (a b c : ℕ) → G.grammar.expr f.expression ≡ Choice a b c → (f.stage ≡ 0 → ⊥)
+  pub other_gives : {a b c : ℕ} → G.grammar.expr f.expression ≡ Choice a b c → (f.stage ≡ 0 → ⊥)
       → Sound G h f.expression f.place (mode_by f.mode) (read_other (so_far f) v) × Resume G h f (Ok v) T (Ok (read_other (so_far f) v)) T
-  other_gives a b c e q = go f.stage refl
+  other_gives {a} {b} {c} e q = go f.stage refl
     where
       go : (s : ℕ) → f.stage ≡ s → Sound G h f.expression f.place (mode_by f.mode) (read_other (so_far f) v) × Resume G h f (Ok v) T (Ok (read_other (so_far f) v)) T
       go zero t = absurd (q t)
@@ -301,9 +293,9 @@ module _ (G : Setting) (sane : Sane G) (T : Store) (h : ℕ) (f : Frame) (v : Re
   own_place : f.place ≤ G.size
   own_place = let a = w.awaits.start in let b = w.awaits.within in omega arith
 
-  pub predicate_gives : (a : ℕ) → G.grammar.expr f.expression ≡ Predicate a
+  pub predicate_gives : {a : ℕ} → G.grammar.expr f.expression ≡ Predicate a
       → Sound G h f.expression f.place (mode_by f.mode) (read_predicate f.place v) × Resume G h f (Ok v) T (Ok (read_predicate f.place v)) T
-  predicate_gives a e = (
+  predicate_gives {a} e = (
     record {
       outcome = denied_ahead v.outcome own_place w.sound.outcome;
       nothing = λ t. ∣ subst (Nullable G.grammar (mode_by f.mode)) (sym e) by_predicate ∣₁;
@@ -315,9 +307,9 @@ module _ (G : Setting) (sane : Sane G) (T : Store) (h : ℕ) (f : Frame) (v : Re
     resumes (Predicate a) f.stage (Ok v) (Ok (read_predicate f.place v)) T T e refl Last.gives,
   )
 
-  pub throw_gives : (l : ℕ) → G.grammar.expr f.expression ≡ Throw l
+  pub throw_gives : {l : ℕ} → G.grammar.expr f.expression ≡ Throw l
       → Sound G h f.expression f.place (mode_by f.mode) (read_recovery l f.place v) × Resume G h f (Ok v) T (Ok (read_recovery l f.place v)) T
-  throw_gives l e =
+  throw_gives {l} e =
       let at = waits (Throw l) f.stage e refl in (
         record {
           outcome = ahead_from w.place f.place G.size v.outcome (omega (arith, at.1)) w.sound.outcome;
@@ -365,10 +357,10 @@ module _ (G : Setting) (sane : Sane G) (T : Store) (h : ℕ) (f : Frame) (v : Re
     resumes (Repetition a) f.stage (Ok v) (Ok (finish f f.stage (read_deeper v))) T T e refl (Round.fails q),
   )
 
-  pub round_gives : (a l p : ℕ) → G.grammar.expr f.expression ≡ Repetition a → v.outcome ≡ Failure l p
+  pub round_gives : {a l p : ℕ} → G.grammar.expr f.expression ≡ Repetition a → v.outcome ≡ Failure l p
       → Sound G h f.expression f.place (mode_by f.mode) (finish f f.stage (read_unmatched f.at l v)) × Resume G h f (Ok v) T (Ok (finish f f.stage (read_unmatched f.at l v))) T
-  round_gives a zero p e q = round_ends a p e q
-  round_gives a (suc l) p e q = round_fails a l p e q
+  round_gives {a} {l = zero} {p} e q = round_ends a p e q
+  round_gives {a} {l = suc l} {p} e q = round_fails a l p e q
 
   round_back : (a j : ℕ) (fin : Reading → Reading) → G.grammar.expr f.expression ≡ Repetition a → v.outcome ≡ Match j
       → ((x : Reading) → fin x ≡ finish f f.stage (read_round v x)) → {r r2 : Res} {W X : Store}
@@ -399,9 +391,9 @@ module _ (G : Setting) (sane : Sane G) (T : Store) (h : ℕ) (f : Frame) (v : Re
   rounds_level zero = w.sound.level
   rounds_level (suc s) = omega (arith, w.awaits.level, w.sound.level)
 
-  pub round_goes : (a j : ℕ) → G.grammar.expr f.expression ≡ Repetition a → v.outcome ≡ Match j
+  pub round_goes : {a j : ℕ} → G.grammar.expr f.expression ≡ Repetition a → v.outcome ≡ Match j
       → Continued G T T h f v (going_on f j (rounds f f.stage v)) a j (mode_by f.mode)
-  round_goes a j e q =
+  round_goes {a} {j} e q =
       let at = waits (Repetition a) f.stage e refl in
       let end = ahead_end w.place G.size j v.outcome q w.sound.outcome in
       let moved : j ≡ w.place → ⊥ = λ t. ∥∥₁_elim (part_nothing a (mode_by f.mode) at.0 at.2 (q ∙ ap Match t)) ⊥_prop
@@ -426,64 +418,6 @@ module _ (G : Setting) (sane : Sane G) (T : Store) (h : ℕ) (f : Frame) (v : Re
             (round_back a j (finish (going_on f j (rounds f f.stage v)) 1) e q (λ x. finish_next f f.stage j v x q) reads
             (subst (λ (x : Expr). ResumeAs G h (going_on f j (rounds f f.stage v)) (mode_by f.mode) x 1 r W r2 X) e o));
       }
-
--- what the code makes is what the lemmas speak of
-module _ (G : Setting) (T : Store) (h : ℕ) (f : Frame) (v : Reading) where
-  pub gives_as : (U : Store) (x y : Reading) → x ≡ y
-      → Sound G h f.expression f.place (mode_by f.mode) y × Resume G h f (Ok v) T (Ok y) U
-      → Sound G h f.expression f.place (mode_by f.mode) x × Resume G h f (Ok v) T (Ok x) U
-  gives_as U x y p o = subst (λ (z : Reading). Sound G h f.expression f.place (mode_by f.mode) z × Resume G h f (Ok v) T (Ok z) U) (sym p) o
-
-  pub goes_as : (a j : ℕ) (x y : Frame) (o : Mode) → x ≡ y → o ≡ mode_by f.mode → Continued G T T h f v y a j (mode_by f.mode) → Continued G T T h f v x a j o
-  goes_as a j x y o p q c = subst (λ (z : Frame). Continued G T T h f v z a j o) (sym p) (subst (λ (k : Mode). Continued G T T h f v y a j k) (sym q) c)
-
--- a row that was put, and counted, in the words of the setting
-pub stores_as : (G : Setting) (T U : Store) (k i : ℕ) (m : Mode) (x : Row) {keeps : Bool} {P Q : ℕ} (o : Mode) (y : Row) → G.keeps ≡ keeps → G.P ≡ P → G.Q ≡ Q → o ≡ m → y ≡ x
-    → Puts keeps P Q T.rows k i o y U.rows → U.fresh ≡ min (T.fresh + 1) most_fresh → Stores G T k i m x U
-stores_as G T U k i m x {keeps} {P} {Q} o y a b c p q puts counts = record {
-  puts =
-      subst (λ (z : Bool). Puts z G.P G.Q T.rows k i m x U.rows) (sym a)
-      (subst (λ (z : ℕ). Puts keeps z G.Q T.rows k i m x U.rows) (sym b)
-      (subst (λ (z : ℕ). Puts keeps P z T.rows k i m x U.rows) (sym c)
-      (subst (λ (z : Mode). Puts keeps P Q T.rows k i z x U.rows) p
-      (subst (λ (z : Row). Puts keeps P Q T.rows k i o z U.rows) q puts))));
-  counts = counts;
-}
-
--- what the code needs of numbers, from some setting in which the frame waits
-
-ahead_place : (i n : ℕ) (o : Outcome) → n ≤ 65535 → Ahead i n o → place_of o ≤ 65535
-ahead_place i n (Match j) s a = let h = a.1 in omega arith
-ahead_place i n (Failure l p) s a = omega arith
-
-note_small : (n : ℕ) (x : Option Note) → n ≤ 65535 → NoteWithin n x → NoteWithin 65535 x
-note_small n None s h = tt
-note_small n (Some x) s h = omega arith
-
-module _ (g : Peg) (h : ℕ) (f : Frame) (v : Reading) (w : Handed g h f v) where
-  pub handed_shallow : Shallow f v
-  handed_shallow =
-      let a = w.awaiting.awaits.level in
-      let b = w.awaiting.sound.level in
-      let c = w.small in
-      (omega arith, omega arith)
-
-  pub handed_fine : Fine v
-  handed_fine =
-      let s = w.awaiting.sound in
-      let n = w.sane.small in
-      record {
-        outcome = ahead_place w.awaiting.place w.setting.size v.outcome n s.outcome;
-        note = note_small w.setting.size v.note n s.note;
-        first = let a = s.first in omega arith;
-        reach = let a = s.reach in omega arith;
-      }
-
-  pub handed_leaf : (x : Expr) → g.expr f.expression ≡ x → AwaitsAs w.setting f (mode_by f.mode) x f.stage w.awaiting.part w.awaiting.place w.awaiting.mode
-  handed_leaf x p = no_leaf w.setting w.sane (record { rows = λ r i m. None; fresh = 0 }) h f v w.awaiting x (ap (λ (y : Peg). y.expr f.expression) w.of ∙ p)
-
-  pub handed_label : (l : ℕ) → g.expr f.expression ≡ Throw l → l < 256
-  handed_label l p = w.sane.labels f.expression l w.awaiting.awaits.known (ap (λ (y : Peg). y.expr f.expression) w.of ∙ p)
 
 pub expr_in : (G : Setting) (g : Peg) (e : ℕ) (x : Expr) → G.grammar ≡ g → x ≡ g.expr e → G.grammar.expr e ≡ x
 expr_in G g e x p q = ap (λ (y : Peg). y.expr e) p ∙ sym q

@@ -1,6 +1,8 @@
 -- An accepted grammar and a text make a setting that the engine can go by.
 use Rattle.std.proofs.Common.{◌≡◌, ℕ, ◌<◌, ◌≤◌, Bool, true, List, length, Err, Result, sym, subst, inl, inr, arith}
 use Rattle.std.proofs.lemmas.Bool.{both_ways, cases_lt}
+use Rattle.grammar.specs.declared.accepted.Grammar.{Grammar}
+use Rattle.grammar.specs.declared.expr.Expr.TheVariants.{Throw}
 use Rattle.grammar.specs.Words.{meaning}
 use Rattle.grammar.specs.Questions.{Accepted}
 use Rattle.grammar.proofs.Referring.{accepted_whole, accepted_solid, accepted_labels, accepted_most_labels, accepted_marks}
@@ -17,7 +19,13 @@ use Rattle.reading.specs.declared.reply.Reply.{Reply}
 use Rattle.reading.specs.Promises.{Promised}
 use Rattle.reading.proofs.Promises.{promised}
 use Rattle.reading.proofs.Truth.{proper, some_rule}
+use Rattle.engine.specs.declared.step.Ask.{Ask}
 use Rattle.engine.specs.Machine.{Sane}
+use Rattle.engine.proofs.Entering.{Begins}
+
+-- what an accepted grammar is: its row passed every question
+pub accepted_of : (g : Grammar) → Accepted g.words.now
+accepted_of g = (g.counted, g.headed, g.formed, g.named, g.solid, g.ending)
 
 inside : {E : Type 0} (fits : ℕ → ℕ → E → Bool) (xs : List E) (a b i : ℕ) → accepted fits xs a b i ≡ true → i < length xs
 inside fits xs a b i t = elim (cases_lt i (length xs)) [
@@ -25,15 +33,31 @@ inside fits xs a b i t = elim (cases_lt i (length xs)) [
   | inr l ↦ absurd (both_ways _ (accepted_past fits xs a b i l) t)
 ]
 
-pub sane : {E : Type 0} (ws : List ℕ) → Accepted ws → (fits : ℕ → ℕ → E → Bool) (xs : List E) (k : ℕ) (keeps : Bool) (P Q : ℕ) → length xs ≤ 65535 → Sane (setting (meaning ws) fits xs k keeps P Q)
-sane ws ok fits xs k keeps P Q small = record {
-  whole = accepted_whole ws ok;
-  solid = accepted_solid ws ok;
-  marks = λ e a b c l p. let h = accepted_marks ws ok e a b c l p in omega arith;
-  labels = λ e l n p. let h = accepted_labels ws ok e l n p in let m = accepted_most_labels ws ok in omega arith;
-  inside = inside fits xs;
-  small = small;
-}
+-- a throw's label is a byte
+pub accepted_label : (g : Grammar) {e l : ℕ} → e < (meaning g.words.now).N → (meaning g.words.now).expr e ≡ Throw l → l < 256
+accepted_label g {e} {l} n p =
+    let h = accepted_labels g.words.now (accepted_of g) e l n p in
+    let m = accepted_most_labels g.words.now (accepted_of g) in
+    omega arith
+
+pub sane : {E : Type 0} (g : Grammar) (fits : ℕ → ℕ → E → Bool) (xs : List E) (n k : ℕ) (keeps : Bool) (P Q : ℕ) → n ≡ length xs → n ≤ 65535 → Sane (setting (meaning g.words.now) fits xs k keeps P Q)
+sane g fits xs n k keeps P Q whole small =
+    let ws : List ℕ = g.words.now in
+    let ok : Accepted ws = accepted_of g in
+    record {
+      whole = accepted_whole ws ok;
+      solid = accepted_solid ws ok;
+      marks = λ e a b c l p. let h = accepted_marks ws ok e a b c l p in omega arith;
+      labels = λ e l n p. accepted_label g n p;
+      inside = inside fits xs;
+      small = omega arith;
+    }
+
+-- below the scene's frames an expression of the grammar may begin
+pub begins : {E : Type 0} (g : Grammar) (fits : ℕ → ℕ → E → Bool) (xs : List E) (n k : ℕ) (keeps : Bool) (P Q : ℕ) {h : ℕ} {ask : Ask} → n ≡ length xs → n ≤ 65535
+    → h < k → ask.expression < (meaning g.words.now).N → ask.place ≤ n → Begins (setting (meaning g.words.now) fits xs k keeps P Q) h ask
+begins g fits xs n k keeps P Q whole small level known place =
+    record { sane = sane g fits xs n k keeps P Q whole small; level = level; known = known; place = omega arith }
 
 -- question 8 is answered yes, from the numbers that the code compares
 pub covers_as : (G : Setting) (cap p c q r : ℕ) → p ≡ G.P → c ≡ cap → q ≡ G.Q → r ≡ G.grammar.R → (c < p) × (r ≤ q) → Covers G cap
@@ -51,6 +75,7 @@ module _ (G : Setting) (cap : ℕ) (T : Table) (p c q r : ℕ) (ep : p ≡ G.P) 
       subst (λ (y : Result Answer Refusal). Replies G cap T (record { result = y; fresh = U.fresh }) U.rows) (sym e) (covered (omega arith, omega arith) reads)
 
 -- a reading by an accepted row keeps its promises
-pub promised_of : {E : Type 0} (ws : List ℕ) → Accepted ws → (fits : ℕ → ℕ → E → Bool) (xs : List E) (k : ℕ) (keeps : Bool) (P Q cap : ℕ) (T U : Table) (q : Reply)
-    → Replies (setting (meaning ws) fits xs k keeps P Q) cap T q U → Promised (setting (meaning ws) fits xs k keeps P Q) cap T q U
-promised_of {E} ws ok fits xs k keeps P Q cap T U q = promised (setting (meaning ws) fits xs k keeps P Q) (proper E ws ok fits xs k keeps P Q) (some_rule ws ok) cap T U q
+pub promised_of : {E : Type 0} (g : Grammar) (fits : ℕ → ℕ → E → Bool) (xs : List E) (k : ℕ) (keeps : Bool) (P Q cap : ℕ) (T U : Table) (q : Reply)
+    → Replies (setting (meaning g.words.now) fits xs k keeps P Q) cap T q U → Promised (setting (meaning g.words.now) fits xs k keeps P Q) cap T q U
+promised_of {E} g fits xs k keeps P Q cap T U q =
+    promised (setting (meaning g.words.now) fits xs k keeps P Q) (proper E g.words.now (accepted_of g) fits xs k keeps P Q) (some_rule g.words.now (accepted_of g)) cap T U q

@@ -1,5 +1,5 @@
 -- Each turn of the engine keeps what has to be kept, and its measure falls. No kind of expression is looked at here.
-use Rattle.std.proofs.Common.{◌≡◌, ℕ, zero, suc, ◌+◌, ◌-◌, ◌*◌, ◌^◌, ◌<◌, ◌≤◌, Bool, ◌≢◌, List, [], ◌∷◌, length, get_or, set, Ok, Err, Result, sym, refl, ap, ◌∙◌, subst, ap₂, subst₂, zero-le, mul-le-mul_right, add-mul, one-mul, add-one, arith, get_or-set_other, get_or-set_same}
+use Rattle.std.proofs.Common.{◌≡◌, ℕ, zero, suc, ◌+◌, ◌-◌, ◌*◌, ◌^◌, ◌<◌, ◌≤◌, Bool, ◌≢◌, List, [], ◌∷◌, length, get_or, set, Ok, Err, Result, sym, refl, ap, ◌∙◌, subst, ap₂, subst₂, mul-le-mul_right, add-mul, one-mul, add-one, arith, get_or-set_other, get_or-set_same, length-set}
 use Rattle.grammar.specs.Words.{Peg}
 use native.Mathlib.Nat.{pow-succ', one-le-pow}
 use Rattle.grammar.specs.declared.expr.Mode.{Mode}
@@ -9,13 +9,14 @@ use Rattle.grammar.specs.declared.expr.Expr.TheVariants.{Empty, Terminal, Call, 
 use Rattle.peg.specs.declared.results.Reading.{Reading}
 use Rattle.reading.specs.declared.refusal.Refusal.{Refusal}
 use Rattle.engine.specs.declared.frame.Frame.{Frame}
+use Rattle.engine.specs.declared.step.Ask.{Ask}
 use Rattle.engine.specs.declared.step.Move.{Move}
 use Rattle.engine.specs.declared.step.Move.TheVariants.{Open, Give}
 use Rattle.engine.specs.declared.step.Control.{Control}
 use Rattle.engine.specs.declared.step.Control.TheVariants.{Evaluate, Return}
 use Rattle.engine.specs.Frames.{blank, mode_by, stack}
 use Rattle.reading.specs.Reads.{Setting, setting, Store, Res, expression, Reads}
-use Rattle.engine.specs.Machine.{Called, First, One, Round, Last, ResumeAs, Resume, digit_as, digit, Sound, Opened, Entered, Continued, Awaiting, Answers, Chain, In, Out, Going, weight, left}
+use Rattle.engine.specs.Machine.{Called, First, One, Round, Last, ResumeAs, Resume, digit_as, digit, Sound, Opened, Entered, Continued, Awaiting, Answers, Chain, In, Out, Resumed, Going, weight, left, Room, frames_after, open_after, comes_next}
 
 -- the stack of frames
 
@@ -155,95 +156,123 @@ module _ (G : Setting) (fs : List Frame) where
   falls_out_open f f2 lt less = pays G.size G.frames (length fs) (digit G f2) (digit G f) (weight G fs) lt less
 
 -- a turn, over the slice and the height
+pub record Turn (G : Setting) (Goal : Res → Store → Type 0) (T : Store) (fs : List Frame) (h : ℕ) (x : Control) : Type 0 where
+  pub fit : length fs ≡ G.frames
+  pub within : h ≤ G.frames
+  pub going : Going G Goal T (stack fs h) x
 
-module _ (G : Setting) (Goal : Res → Store → Type 0) (T : Store) (fs : List Frame) (h : ℕ) (x : Control)
-    (fit : length fs ≡ G.frames) (n : Going G Goal T (stack fs h) x) where
+length_after : (fs : List Frame) (k : ℕ) (s : Move) → length (frames_after fs k s) ≡ length fs
+length_after fs k (Open f a) = length-set fs k f
+length_after fs k (Give v) = refl
+
+-- what the code makes of a step is what the lemmas speak of
+module _ (G : Setting) {fs gs : List Frame} {k : ℕ} {x : Control} {z : ℕ × Control} (p : z ≡ (k, x)) (q : gs ≡ fs) where
+  taken_goes : {Goal : Res → Store → Type 0} {T : Store} → Turn G Goal T fs k x → Turn G Goal T gs z.0 z.1
+  taken_goes {Goal} {T} o = subst₂ (λ (y : ℕ × Control) (ys : List Frame). Turn G Goal T ys y.0 y.1) (sym p) (sym q) o
+
+  taken_less : {n : ℕ} → left G (stack fs k) x < n → left G (stack gs z.0) z.1 < n
+  taken_less {n} o = subst₂ (λ (y : ℕ × Control) (ys : List Frame). left G (stack ys y.0) y.1 < n) (sym p) (sym q) o
+
+module _ {G : Setting} {Goal : Res → Store → Type 0} {T : Store} {fs : List Frame} {h : ℕ} {x : Control} (turn : Turn G Goal T fs h x) where
   long : length (stack fs h) ≡ h
   long = length_stack fs h
 
-  entering : (e i : ℕ) (m : Mode) → x ≡ Evaluate e i m → In G Goal T (stack fs h) e i m
-  entering e i m p = subst (Going G Goal T (stack fs h)) p n
+  -- an expression is entered
 
-  pub entered_known : (e i : ℕ) (m : Mode) → x ≡ Evaluate e i m → (e < G.grammar.N) × (i ≤ G.size)
-  entered_known e i m p = ((entering e i m p).known, (entering e i m p).place)
+  module _ {q : Ask} (p : x ≡ Evaluate q) where
+    entering : In G Goal T (stack fs h) q.expression q.place q.mode
+    entering = subst (Going G Goal T (stack fs h)) p turn.going
 
-  pub entered_refused : (e i : ℕ) (m : Mode) (z : Refusal) → x ≡ Evaluate e i m → Reads G h T (expression e) i m (Err z) T → Goal (Err z) T
-  entered_refused e i m z p reads = in_refused G Goal (entering e i m p) (subst (λ (k : ℕ). Reads G k T (expression e) i m (Err z) T) (sym long) reads)
+    pub entered_refused : (z : Refusal) → Entered G T h q.expression q.place q.mode (Err z) → Goal (Err z) T
+    entered_refused z reads = in_refused G Goal entering (subst (λ (k : ℕ). Reads G k T (expression q.expression) q.place q.mode (Err z) T) (sym long) reads)
 
-  pub entered_give : (e i : ℕ) (m : Mode) (v : Reading) → x ≡ Evaluate e i m → Sound G h e i m v × Reads G h T (expression e) i m (Ok v) T → Out G Goal T (stack fs h) v
-  entered_give e i m v p o = in_give G Goal (entering e i m p) (subst (λ (k : ℕ). Sound G k e i m v × Reads G k T (expression e) i m (Ok v) T) (sym long) o)
+    goes_as : (s : Move) → Entered G T h q.expression q.place q.mode (Ok s) → (open_after h s ≤ G.frames) × Going G Goal T (stack (frames_after fs h s) (open_after h s)) (comes_next s)
+    goes_as (Open f a) w =
+        let fit = turn.fit in (
+          omega (arith, w.level),
+          subst (λ (st : List Frame). In G Goal T st a.expression a.place a.mode) (sym (stack_push fs h f (omega (arith, w.level))))
+              (in_open G Goal entering (subst (λ (k : ℕ). Opened G T k q.expression q.place q.mode f a.expression a.place a.mode) (sym long) w)),
+        )
+    goes_as (Give v) o = (
+      turn.within,
+      in_give G Goal entering (subst (λ (k : ℕ). Sound G k q.expression q.place q.mode v × Reads G k T (expression q.expression) q.place q.mode (Ok v) T) (sym long) o),
+    )
 
-  pub entered_give_less : (e i : ℕ) (m : Mode) → x ≡ Evaluate e i m → weight G (stack fs h) < left G (stack fs h) x
-  entered_give_less e i m p = subst (λ (y : Control). weight G (stack fs h) < left G (stack fs h) y) (sym p) (falls_in_give G (stack fs h))
+    less_as : (s : Move) → Entered G T h q.expression q.place q.mode (Ok s) → left G (stack (frames_after fs h s) (open_after h s)) (comes_next s) < left G (stack fs h) x
+    less_as (Open f a) w =
+        let fit = turn.fit in
+        subst₂ (λ (st : List Frame) (y : Control). left G st (Evaluate a) < left G (stack fs h) y) (sym (stack_push fs h f (omega (arith, w.level)))) (sym p)
+        (falls_in_open G (stack fs h) f (omega (arith, long, w.level)) w.small)
+    less_as (Give v) o = subst (λ (y : Control). weight G (stack fs h) < left G (stack fs h) y) (sym p) (falls_in_give G (stack fs h))
 
-  pub entered_open : (e i a j : ℕ) (m o : Mode) (f : Frame) → x ≡ Evaluate e i m → Opened G T h e i m f a j o → (h + 1 ≤ G.frames) × In G Goal T (stack (set fs h f) (h + 1)) a j o
-  entered_open e i a j m o f p w = (
-    omega (arith, w.level),
-    subst (λ (st : List Frame). In G Goal T st a j o) (sym (stack_push fs h f (omega (arith, w.level))))
-        (in_open G Goal (entering e i m p) (subst (λ (k : ℕ). Opened G T k e i m f a j o) (sym long) w)),
-  )
+    pub entered_room : (s : Move) → Entered G T h q.expression q.place q.mode (Ok s) → Room (length fs) h s
+    entered_room (Open f a) w = let fit = turn.fit in omega (arith, w.level)
+    entered_room (Give v) o = tt
 
-  pub entered_open_less : (e i a j : ℕ) (m o : Mode) (f : Frame) → x ≡ Evaluate e i m → Opened G T h e i m f a j o
-      → left G (stack (set fs h f) (h + 1)) (Evaluate a j o) < left G (stack fs h) x
-  entered_open_less e i a j m o f p w =
-      subst₂ (λ (st : List Frame) (y : Control). left G st (Evaluate a j o) < left G (stack fs h) y) (sym (stack_push fs h f (omega (arith, w.level)))) (sym p)
-      (falls_in_open G (stack fs h) f (omega (arith, long, w.level)) w.small)
+    module _ (s : Move) (w : Entered G T h q.expression q.place q.mode (Ok s)) {z : ℕ × Control} {gs : List Frame} (e : z ≡ (open_after h s, comes_next s)) (held : gs ≡ frames_after fs h s) where
+      pub entered_goes : Turn G Goal T gs z.0 z.1
+      entered_goes = taken_goes G e held (record { fit = length_after fs h s ∙ turn.fit; within = (goes_as s w).0; going = (goes_as s w).1 })
+
+      pub entered_less : left G (stack gs z.0) z.1 < left G (stack fs h) x
+      entered_less = taken_less G e held (less_as s w)
+
+  -- a frame is resumed
 
   abbrev top : Frame
   top = get_or fs (h - 1) blank
 
-  leaving : (v : Reading) → x ≡ Return v → 0 < h → Out G Goal T (top ∷ stack fs (h - 1)) v
-  leaving v p some = subst (λ (st : List Frame). Out G Goal T st v) (stack_top fs h some) (subst (Going G Goal T (stack fs h)) p n)
+  module _ {v : Reading} (p : x ≡ Return v) (some : 0 < h) where
+    leaving : Out G Goal T (top ∷ stack fs (h - 1)) v
+    leaving = subst (λ (st : List Frame). Out G Goal T st v) (stack_top fs h some) (subst (Going G Goal T (stack fs h)) p turn.going)
 
-  below : length (stack fs (h - 1)) ≡ h - 1
-  below = length_stack fs (h - 1)
+    below : length (stack fs (h - 1)) ≡ h - 1
+    below = length_stack fs (h - 1)
 
-  pub resumed_awaiting : (v : Reading) → x ≡ Return v → 0 < h → Awaiting G (h - 1) top v
-  resumed_awaiting v p some = subst (λ (k : ℕ). Awaiting G k top v) below (out_awaiting G Goal (leaving v p some))
+    pub resumed_awaiting : Awaiting G (h - 1) top v
+    resumed_awaiting = subst (λ (k : ℕ). Awaiting G k top v) below (out_awaiting G Goal leaving)
 
-  pub resumed_give : (U : Store) (v w : Reading) → x ≡ Return v → 0 < h
-      → Sound G (h - 1) top.expression top.place (mode_by top.mode) w × Resume G (h - 1) top (Ok v) T (Ok w) U → Out G Goal U (stack fs (h - 1)) w
-  resumed_give U v w p some o =
-      out_give G Goal (leaving v p some) (subst (λ (k : ℕ). Sound G k top.expression top.place (mode_by top.mode) w × Resume G k top (Ok v) T (Ok w) U) (sym below) o)
+    on_as : (U : Store) (s : Move) → Resumed G T U (h - 1) top v s → (open_after (h - 1) s ≤ G.frames) × Going G Goal U (stack (frames_after fs (h - 1) s) (open_after (h - 1) s)) (comes_next s)
+    on_as U (Open f a) w =
+        let fit = turn.fit in
+        let within = turn.within in (
+          omega arith,
+          subst (λ (st : List Frame). In G Goal U st a.expression a.place a.mode) (sym (stack_push fs (h - 1) f (omega arith)))
+              (out_open G Goal leaving (subst (λ (k : ℕ). Continued G T U k top v f a.expression a.place a.mode) (sym below) w)),
+        )
+    on_as U (Give w) o =
+        let within = turn.within in (
+          omega arith,
+          out_give G Goal leaving (subst (λ (k : ℕ). Sound G k top.expression top.place (mode_by top.mode) w × Resume G k top (Ok v) T (Ok w) U) (sym below) o),
+        )
 
-  pub resumed_give_less : (v : Reading) → x ≡ Return v → 0 < h → weight G (stack fs (h - 1)) < left G (stack fs h) x
-  resumed_give_less v p some =
-      subst₂ (λ (st : List Frame) (y : Control). weight G (stack fs (h - 1)) < left G st y) (sym (stack_top fs h some)) (sym p) (falls_out_give G (stack fs (h - 1)) top)
+    down_as : (U : Store) (s : Move) → Resumed G T U (h - 1) top v s → left G (stack (frames_after fs (h - 1) s) (open_after (h - 1) s)) (comes_next s) < left G (stack fs h) x
+    down_as U (Open f a) w =
+        let fit = turn.fit in
+        let within = turn.within in
+        let less : left G (f ∷ stack fs (h - 1)) (Evaluate a) < weight G (top ∷ stack fs (h - 1)) = falls_out_open G (stack fs (h - 1)) top f (omega (arith, below)) w.less in
+        let one : left G (f ∷ stack fs (h - 1)) (Evaluate a) < left G (stack fs h) x =
+        subst₂ (λ (st : List Frame) (y : Control). left G (f ∷ stack fs (h - 1)) (Evaluate a) < left G st y) (sym (stack_top fs h some)) (sym p) less in
+        subst (λ (st : List Frame). left G st (Evaluate a) < left G (stack fs h) x) (sym (stack_push fs (h - 1) f (omega arith))) one
+    down_as U (Give w) o =
+        subst₂ (λ (st : List Frame) (y : Control). weight G (stack fs (h - 1)) < left G st y) (sym (stack_top fs h some)) (sym p) (falls_out_give G (stack fs (h - 1)) top)
 
-  replaced : (f : Frame) → 0 < h → h ≤ G.frames → stack (set fs (h - 1) f) h ≡ f ∷ stack fs (h - 1)
-  replaced f some within =
-      let e : h ≡ (h - 1) + 1 = omega arith in
-      ap (stack (set fs (h - 1) f)) e ∙ stack_push fs (h - 1) f (omega (arith, fit))
+    module _ (U : Store) (s : Move) (w : Resumed G T U (h - 1) top v s) {z : ℕ × Control} {gs : List Frame} (e : z ≡ (open_after (h - 1) s, comes_next s)) (held : gs ≡ frames_after fs (h - 1) s) where
+      pub resumed_goes : Turn G Goal U gs z.0 z.1
+      resumed_goes = taken_goes G e held (record { fit = length_after fs (h - 1) s ∙ turn.fit; within = (on_as U s w).0; going = (on_as U s w).1 })
 
-  pub resumed_open : (U : Store) (v : Reading) (f : Frame) (a j : ℕ) (o : Mode) → x ≡ Return v → 0 < h → h ≤ G.frames
-      → Continued G T U (h - 1) top v f a j o → In G Goal U (stack (set fs (h - 1) f) h) a j o
-  resumed_open U v f a j o p some within w =
-      subst (λ (st : List Frame). In G Goal U st a j o) (sym (replaced f some within))
-      (out_open G Goal (leaving v p some) (subst (λ (k : ℕ). Continued G T U k top v f a j o) (sym below) w))
+      pub resumed_less : left G (stack gs z.0) z.1 < left G (stack fs h) x
+      resumed_less = taken_less G e held (down_as U s w)
 
-  pub resumed_open_less : (U : Store) (v : Reading) (f : Frame) (a j : ℕ) (o : Mode) → x ≡ Return v → 0 < h → h ≤ G.frames
-      → Continued G T U (h - 1) top v f a j o → left G (stack (set fs (h - 1) f) h) (Evaluate a j o) < left G (stack fs h) x
-  resumed_open_less U v f a j o p some within w =
-      let less : left G (f ∷ stack fs (h - 1)) (Evaluate a j o) < weight G (top ∷ stack fs (h - 1)) = falls_out_open G (stack fs (h - 1)) top f (omega (arith, below)) w.less in
-      let one : left G (f ∷ stack fs (h - 1)) (Evaluate a j o) < left G (stack fs h) x =
-      subst₂ (λ (st : List Frame) (y : Control). left G (f ∷ stack fs (h - 1)) (Evaluate a j o) < left G st y) (sym (stack_top fs h some)) (sym p) less in
-      subst (λ (st : List Frame). left G st (Evaluate a j o) < left G (stack fs h) x) (sym (replaced f some within)) one
+  pub resumed_room : (s : Move) → 0 < h → Room (length fs) (h - 1) s
+  resumed_room (Open f a) some = let fit = turn.fit in let within = turn.within in omega arith
+  resumed_room (Give w) some = tt
 
 -- the whole question: expression e at place 0 in mode on, with none other open
 abbrev pub Goal : Setting → Store → ℕ → Res → Store → Type 0
 Goal G T e r U = Reads G 0 T (expression e) 0 On r U
 
-pub starts : (G : Setting) (T : Store) (e : ℕ) → e < G.grammar.N → In G (Goal G T e) T [] e 0 On
-starts G T e l = record { known = l; place = zero-le; chain = tt; next = λ r U reads. reads }
-
 -- the memory's places and rules are as they were
-pub entered_in : {E : Type 0} (g : Peg) (fits : ℕ → ℕ → E → Bool) (xs : List E) (k : ℕ) (keeps : Bool) (P P2 Q Q2 : ℕ) → P2 ≡ P → Q2 ≡ Q → (T : Store) (h e i : ℕ) (m : Mode) (r : Result Move Refusal)
-    → Entered (setting g fits xs k keeps P2 Q2) T h e i m r → Entered (setting g fits xs k keeps P Q) T h e i m r
-entered_in g fits xs k keeps P P2 Q Q2 p q T h e i m r o =
-    subst₂ (λ (a b : ℕ). Entered (setting g fits xs k keeps a b) T h e i m r) p q o
-
-pub opened_at : (G : Setting) (T : Store) (h e i : ℕ) (m : Mode) {x : Move} {f : Frame} {a j : ℕ} {o : Mode} → x ≡ Open f a j o → Entered G T h e i m (Ok x) → Opened G T h e i m f a j o
-opened_at G T h e i m p w = subst (λ (y : Move). Entered G T h e i m (Ok y)) p w
-
-pub given_at : (G : Setting) (T : Store) (h e i : ℕ) (m : Mode) {x : Move} {v : Reading} → x ≡ Give v → Entered G T h e i m (Ok x) → Sound G h e i m v × Reads G h T (expression e) i m (Ok v) T
-given_at G T h e i m p w = subst (λ (y : Move). Entered G T h e i m (Ok y)) p w
+pub entered_in : {E : Type 0} (g : Peg) (fits : ℕ → ℕ → E → Bool) (xs : List E) (k : ℕ) (keeps : Bool) {P P2 Q Q2 : ℕ} → P2 ≡ P → Q2 ≡ Q → (T : Store) (h : ℕ) (q : Ask) (r : Result Move Refusal)
+    → Entered (setting g fits xs k keeps P2 Q2) T h q.expression q.place q.mode r → Entered (setting g fits xs k keeps P Q) T h q.expression q.place q.mode r
+entered_in g fits xs k keeps p q T h ask r o =
+    subst₂ (λ (a b : ℕ). Entered (setting g fits xs k keeps a b) T h ask.expression ask.place ask.mode r) p q o

@@ -1,10 +1,11 @@
 -- Frames: what a blank one is, and what an open one says of its finished parts.
 use Rattle.std.specs.Prelude.{ℕ, zero, suc, List, [], ◌∷◌, length, replicate, Some, None, Option, slice_index_or}
 use Rattle.grammar.specs.declared.expr.Mode.{Mode}
-use Rattle.grammar.specs.declared.expr.Mode.TheVariants.{On, Off}
+use Rattle.grammar.specs.Marks.{mode_bit, bit_mode}
 use Rattle.peg.specs.declared.results.Outcome.TheVariants.{Match}
 use Rattle.peg.specs.declared.results.Note.{Note}
 use Rattle.peg.specs.declared.results.Reading.{Reading}
+use Rattle.reading.specs.Reads.{noted_marks}
 use Rattle.engine.specs.declared.frame.Frame.{Frame}
 
 -- blank is all zero
@@ -16,8 +17,7 @@ abbrev pub blanked : List Frame → List Frame
 blanked fs = replicate (length fs) blank
 
 abbrev pub mode_by : ℕ → Mode
-mode_by zero = On
-mode_by (suc n) = Off
+mode_by = bit_mode
 
 abbrev pub note_by : ℕ → ℕ → ℕ → Option Note
 note_by zero p s = None
@@ -39,8 +39,7 @@ stack fs zero = []
 stack fs (suc k) = slice_index_or fs k blank ∷ stack fs k
 
 abbrev pub mode_number : Mode → ℕ
-mode_number On = 0
-mode_number Off = 1
+mode_number = mode_bit
 
 -- the frame of an expression that begins at place i in mode m
 abbrev pub fresh_frame : ℕ → ℕ → Mode → Frame
@@ -54,10 +53,6 @@ noted_number (Some x) = 1
 abbrev pub noted_at : Option Note → ℕ
 noted_at None = 0
 noted_at (Some x) = x.place
-
-abbrev pub noted_marks : Option Note → ℕ
-noted_marks None = 0
-noted_marks (Some x) = x.marks
 
 -- the same frame, with a part finished: its parts came to v, and the next one begins at place j
 abbrev pub going_on : Frame → ℕ → Reading → Frame

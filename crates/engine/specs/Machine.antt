@@ -1,5 +1,5 @@
 -- What the engine's records mean: how an open frame goes on with what its part gave, and what is kept from turn to turn.
-use Rattle.std.specs.Prelude.{◌≡◌, ℕ, zero, suc, ◌+◌, ◌-◌, ◌*◌, ◌^◌, ◌<◌, ◌≤◌, max, true, false, List, [], ◌∷◌, length, Some, Ok, Err, Result}
+use Rattle.std.specs.Prelude.{◌≡◌, ℕ, zero, suc, ◌+◌, ◌-◌, ◌*◌, ◌^◌, ◌<◌, ◌≤◌, max, Bool, true, false, List, [], ◌∷◌, length, slice_set, Some, Ok, Err, Result}
 use Rattle.grammar.specs.declared.expr.Mode.{Mode}
 use Rattle.grammar.specs.declared.expr.Mode.TheVariants.{On, Off}
 use Rattle.grammar.specs.declared.expr.Expr.{Expr}
@@ -14,11 +14,12 @@ use Rattle.peg.specs.Summaries.{added}
 use Rattle.peg.specs.Readings.{read_deeper, read_sequence, read_other, read_end, read_round, read_predicate, read_recovery}
 use Rattle.reading.specs.declared.refusal.Refusal.{Refusal}
 use Rattle.engine.specs.declared.frame.Frame.{Frame}
+use Rattle.engine.specs.declared.step.Ask.{Ask}
 use Rattle.engine.specs.declared.step.Move.{Move}
 use Rattle.engine.specs.declared.step.Move.TheVariants.{Open, Give}
 use Rattle.engine.specs.declared.step.Control.{Control}
 use Rattle.engine.specs.declared.step.Control.TheVariants.{Evaluate, Return}
-use Rattle.engine.specs.Frames.{mode_by, so_far}
+use Rattle.engine.specs.Frames.{mode_by, so_far, fresh_frame, going_on}
 use Rattle.reading.specs.Reads.{Setting, Store, Res, expression, each, row_of, place_of, NoteWithin, Stores, Reads}
 
 -- what the code asks of a setting
@@ -166,10 +167,14 @@ pub record Opened (G : Setting) (T : Store) (h e i : ℕ) (m : Mode) (f : Frame)
   pub small : digit G f ≤ G.size + 2
   pub back : (r : Res) (U : Store) (r2 : Res) (W : Store) → Reads G (h + 1) T (expression a) j o r U → Resume G h f r U r2 W → Reads G h T (expression e) i m r2 W
 
+-- what is asked is opened with its part a in mode o, at its own place
+abbrev pub opens_with : Ask → ℕ → Mode → Move
+opens_with q a o = Open (fresh_frame q.expression q.place q.mode) (record { expression = a; place = q.place; mode = o })
+
 abbrev pub Entered : Setting → Store → ℕ → ℕ → ℕ → Mode → Result Move Refusal → Type 0
 Entered G T h e i m (Err z) = Reads G h T (expression e) i m (Err z) T
 Entered G T h e i m (Ok (Give v)) = Sound G h e i m v × Reads G h T (expression e) i m (Ok v) T
-Entered G T h e i m (Ok (Open f a j o)) = Opened G T h e i m f a j o
+Entered G T h e i m (Ok (Open f q)) = Opened G T h e i m f q.expression q.place q.mode
 
 -- f, handed v at the store T, becomes f2, which goes on with a at j in mode o from the store U.
 pub record Continued (G : Setting) (T U : Store) (h : ℕ) (f : Frame) (v : Reading) (f2 : Frame) (a j : ℕ) (o : Mode) : Type 0 where
@@ -180,9 +185,37 @@ pub record Continued (G : Setting) (T U : Store) (h : ℕ) (f : Frame) (v : Read
   pub less : digit G f2 < digit G f
   pub back : (r : Res) (W : Store) (r2 : Res) (X : Store) → Reads G (h + 1) U (expression a) j o r W → Resume G h f2 r W r2 X → Resume G h f (Ok v) T r2 X
 
+-- f, its parts having come to v, goes on with a at j
+abbrev pub goes_on_with : Frame → ℕ → ℕ → Reading → Move
+goes_on_with f a j v = Open (going_on f j v) (record { expression = a; place = j; mode = mode_by f.mode })
+
 abbrev pub Resumed : Setting → Store → Store → ℕ → Frame → Reading → Move → Type 0
 Resumed G T U h f v (Give w) = Sound G h f.expression f.place (mode_by f.mode) w × Resume G h f (Ok v) T (Ok w) U
-Resumed G T U h f v (Open f2 a j o) = Continued G T U h f v f2 a j o
+Resumed G T U h f v (Open f2 q) = Continued G T U h f v f2 q.expression q.place q.mode
+
+-- a step at level k: the frame that it opens is held there
+abbrev pub frames_after : List Frame → ℕ → Move → List Frame
+frames_after fs k (Open f q) = slice_set fs k f
+frames_after fs k (Give v) = fs
+
+-- how many are open then
+abbrev pub open_after : ℕ → Move → ℕ
+open_after k (Open f q) = k + 1
+open_after k (Give v) = k
+
+-- what comes next
+abbrev pub comes_next : Move → Control
+comes_next (Open f q) = Evaluate q
+comes_next (Give v) = Return v
+
+-- of n frames, one is there for what is opened at level k
+abbrev pub Room : ℕ → ℕ → Move → Type 0
+Room n k (Open f q) = k < n
+Room n k (Give v) = Unit {0}
+
+-- the setting goes by a memory of this promise, with P places and Q rules
+abbrev pub GoesBy : Setting → Bool → ℕ → ℕ → Type 0
+GoesBy G keeps P Q = (G.keeps ≡ keeps) × (G.P ≡ P) × (G.Q ≡ Q)
 
 -- what resuming f with v asks
 pub record Awaiting (G : Setting) (h : ℕ) (f : Frame) (v : Reading) : Type 0 where
@@ -219,7 +252,7 @@ pub record Out (G : Setting) (Goal : Res → Store → Type 0) (T : Store) (fs :
 
 -- what is kept from turn to turn
 abbrev pub Going : Setting → (Res → Store → Type 0) → Store → List Frame → Control → Type 0
-Going G Goal T fs (Evaluate e i m) = In G Goal T fs e i m
+Going G Goal T fs (Evaluate q) = In G Goal T fs q.expression q.place q.mode
 Going G Goal T fs (Return v) = Out G Goal T fs v
 
 -- what falls from turn to turn: the frames' digits, to the base of the size and four
@@ -228,8 +261,12 @@ weight G [] = 0
 weight G (f ∷ fs) = digit G f * (G.size + 4) ^ (G.frames - length fs) + weight G fs
 
 abbrev pub left : Setting → List Frame → Control → ℕ
-left G fs (Evaluate e i m) = (G.size + 3) * (G.size + 4) ^ (G.frames - length fs) + weight G fs
+left G fs (Evaluate q) = (G.size + 3) * (G.size + 4) ^ (G.frames - length fs) + weight G fs
 left G fs (Return v) = weight G fs
+
+-- resuming f, of expression x, with v comes to this: wherever f waits for v
+abbrev pub Resumes : Setting → ℕ → Frame → Reading → Expr → Store → Store → Move → Type 0
+Resumes G h f v x T U s = Sane G → Awaiting G h f v → G.grammar.expr f.expression ≡ x → Resumed G T U h f v s
 
 -- places that a row can hold as distances
 pub record Fine (v : Reading) : Type 0 where
@@ -245,7 +282,3 @@ pub record Handed (g : Peg) (h : ℕ) (f : Frame) (v : Reading) : Type 0 where
   pub sane : Sane setting
   pub small : setting.frames < 2 ^ 64
   pub awaiting : Awaiting setting h f v
-
--- one more level can be counted
-abbrev pub Shallow : Frame → Reading → Type 0
-Shallow f v = (f.depth + 1 < 2 ^ 64) × (v.depth + 1 < 2 ^ 64)

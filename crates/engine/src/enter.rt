@@ -1,44 +1,50 @@
 //! An expression is entered: it gives at once, or is opened with its first part.
-ghost use Rattle.std.specs.Prelude.{◌≡◌, ℕ, ◌+◌, ◌^◌, ◌<◌, ◌≤◌, length};
+ghost use Rattle.std.specs.Prelude.{◌≡◌, ℕ, ◌^◌, ◌<◌, ◌≤◌};
 ghost use Rattle.grammar.specs.declared.expr.Expr.TheVariants.{Call};
 ghost use Rattle.grammar.specs.Words.{meaning};
-ghost use Rattle.grammar.specs.Form.{recovers_lem};
+ghost use Rattle.peg.specs.declared.results.Outcome.TheVariants.{Failure};
+ghost use Rattle.peg.specs.Rules.{unmarked};
+ghost use Rattle.peg.specs.Readings.{read_alone};
 ghost use Rattle.text.specs.Meaning.{accepted};
-ghost use Rattle.engine.specs.Frames.{fresh_frame, mode_number};
+ghost use Rattle.engine.specs.Frames.{fresh_frame};
 ghost use Rattle.reading.specs.Reads.{setting, store, read_terminal};
-ghost use Rattle.engine.specs.Machine.{Sane, Entered};
+ghost use Rattle.engine.specs.Machine.{Entered, opens_with};
 
-use crate::find::found;
 use crate::frame::Frame;
-use crate::readings::{alone, deeper};
-use crate::step::Move;
-use grammar::accepted::Grammar;
+use crate::readings::{Part, alone};
+use crate::scene::Scene;
+use crate::step::{Ask, Move};
 use grammar::expr::{Expr, Mode};
 use memo::memory::Memory;
-use peg::results::{Note, Outcome, Reading};
+use peg::results::{Note, Outcome, Reading, RulePlace};
 use reading::refusal::Refusal;
 use text::Text;
 
-/// The number by which a frame holds a mode.
-fn number_of(mode: Mode) -> u8
-    ensures { result ≡ mode_number mode }
+/// The frame of an expression that begins.
+fn fresh(ask: Ask) -> Frame
+    ensures { result ≡ fresh_frame ask.expression ask.place ask.mode }
 {
-    match mode {
-        Mode::On => 0,
-        Mode::Off => 1,
+    Frame {
+        expression: ask.expression,
+        place: ask.place,
+        mode: ask.mode.into(),
+        at: ask.place,
+        ..Frame::blank()
     }
 }
 
-/// The frame of an expression that begins.
-fn fresh(expression: usize, place: usize, mode: Mode) -> Frame
-    ensures { result ≡ fresh_frame expression place mode }
+/// An expression is opened with a part, at its own place.
+fn opened(ask: Ask, part: usize, mode: Mode) -> Move
+    ensures { result ≡ opens_with ask part mode }
 {
-    let mut frame = Frame::blank();
-    frame.expression = expression;
-    frame.place = place;
-    frame.mode = number_of(mode);
-    frame.at = place;
-    frame
+    Move::Open {
+        frame: fresh(ask),
+        ask: Ask {
+            expression: part,
+            mode,
+            ..ask
+        },
+    }
 }
 
 /// A terminal.
@@ -58,134 +64,80 @@ fn terminal<T: Text>(text: &T, a: u32, b: u32, mark: u32, place: usize) -> Readi
     }
 }
 
-/// The recovery expression of a throw, which only mode on has.
-fn recovers(grammar: &Grammar<'_>, label: usize, mode: Mode) -> Option<usize>
-    ensures { result ≡ recovers_lem (meaning grammar.now.words.now) label mode }
+/// A throw that nothing recovers.
+fn thrown(label: u8, place: usize) -> Reading
+    requires { place < 2 ^ 63 }
+    ensures { result ≡ read_alone place (Failure label place) (unmarked place) }
 {
-    match mode {
-        Mode::On => grammar.recovery(label),
-        Mode::Off => None,
-    }
+    alone(
+        place,
+        Outcome::Failure { label, place },
+        Some(Note { place, marks: 0 }),
+    )
 }
 
-/// A call: its rule-place is looked up first.
-fn enter_call<T: Text, M: Memory>(
-    grammar: &Grammar<'_>,
-    text: &T,
-    memory: &M,
-    frames: usize,
-    height: usize,
-    expression: usize,
-    rule: usize,
-    place: usize,
-    mode: Mode,
-) -> Result<Move, Refusal>
-    requires sane { Sane (setting (meaning grammar.now.words.now) T.fits (T.elements text.now) frames M.keeps (M.P memory.now) (M.Q memory.now)) }
-    requires known { expression < (meaning grammar.now.words.now).N }
-    requires within { place ≤ length (T.elements text.now) }
-    requires level { height < frames }
-    requires call { (meaning grammar.now.words.now).expr expression ≡ Call rule }
-    ensures { (n : ℕ) → Entered (setting (meaning grammar.now.words.now) T.fits (T.elements text.now) frames M.keeps (M.P memory.now) (M.Q memory.now)) (store (M.table memory.now) n) height expression place mode result }
-{
-    match memory.look(rule, place, mode) {
-        None => Ok(Move::Open {
-            frame: fresh(expression, place, mode),
-            part: grammar.body(rule),
-            place,
-            mode,
-        }),
-        Some(row) => match found(
-            grammar,
-            text.size(),
-            frames - height - 1,
-            rule,
-            place,
-            mode,
-            row,
-        ) {
-            Ok(reading) => Ok(Move::Give {
-                reading: deeper(reading),
-            }),
-            Err(refusal) => Err(refusal),
-        },
+impl<T: Text> Scene<'_, T> {
+    /// A call: its rule-place is looked up first.
+    fn enter_call<M: Memory>(
+        &self,
+        memory: &M,
+        height: usize,
+        ask: Ask,
+        rule: usize,
+    ) -> Result<Move, Refusal>
+        requires known { ask.expression < (meaning self.now.grammar.now.words.now).N }
+        requires within { ask.place ≤ self.now.size }
+        requires level { height < self.now.frames }
+        requires call { (meaning self.now.grammar.now.words.now).expr ask.expression ≡ Call rule }
+        ensures { (n : ℕ) → Entered (setting (meaning self.now.grammar.now.words.now) T.fits (T.elements self.now.text.now) self.now.frames M.keeps (M.P memory.now) (M.Q memory.now)) (store (M.table memory.now) n) height ask.expression ask.place ask.mode result }
+    {
+        let Ask { place, mode, .. } = ask;
+        let at = RulePlace { rule, place, mode };
+        match memory.look(at) {
+            None => Ok(opened(ask, self.grammar.body(rule), mode)),
+            Some(row) => {
+                let reading = self.found(self.frames - height - 1, at, row)?;
+                let part = Part { reading };
+                Ok(Move::Give {
+                    reading: part.deeper(),
+                })
+            }
+        }
     }
-}
 
-/// Enters an expression below so many open ones.
-pub(crate) fn enter<T: Text, M: Memory>(
-    grammar: &Grammar<'_>,
-    text: &T,
-    memory: &M,
-    frames: usize,
-    height: usize,
-    expression: usize,
-    place: usize,
-    mode: Mode,
-) -> Result<Move, Refusal>
-    requires sane { Sane (setting (meaning grammar.now.words.now) T.fits (T.elements text.now) frames M.keeps (M.P memory.now) (M.Q memory.now)) }
-    requires known { expression < (meaning grammar.now.words.now).N }
-    requires within { place ≤ length (T.elements text.now) }
-    ensures { (n : ℕ) → Entered (setting (meaning grammar.now.words.now) T.fits (T.elements text.now) frames M.keeps (M.P memory.now) (M.Q memory.now)) (store (M.table memory.now) n) height expression place mode result }
-{
-    if height >= frames {
-        return Err(Refusal::TooDeep);
-    }
-    let frame = fresh(expression, place, mode);
-    match grammar.expr(expression) {
-        Expr::Empty => Ok(Move::Give {
-            reading: alone(place, Outcome::Match { end: place }, None),
-        }),
-        Expr::Terminal { a, b, mark } => Ok(Move::Give {
-            reading: terminal(text, a, b, mark, place),
-        }),
-        Expr::Call { rule } => enter_call(
-            grammar, text, memory, frames, height, expression, rule, place, mode,
-        ),
-        Expr::Sequence { first, second: _ } => Ok(Move::Open {
-            frame,
-            part: first,
-            place,
-            mode,
-        }),
-        Expr::Choice {
-            first,
-            second: _,
-            set: _,
-        } => Ok(Move::Open {
-            frame,
-            part: first,
-            place,
-            mode,
-        }),
-        Expr::Repetition { part } => Ok(Move::Open {
-            frame,
-            part,
-            place,
-            mode,
-        }),
-        Expr::Predicate { part } => Ok(Move::Open {
-            frame,
-            part,
-            place,
-            mode: Mode::Off,
-        }),
-        Expr::Throw { label } => match recovers(grammar, label, mode) {
-            Some(part) => Ok(Move::Open {
-                frame,
-                part,
-                place,
-                mode: Mode::On,
+    /// Enters an expression below so many open ones.
+    pub(crate) fn enter<M: Memory>(
+        &self,
+        memory: &M,
+        height: usize,
+        ask: Ask,
+    ) -> Result<Move, Refusal>
+        requires known { ask.expression < (meaning self.now.grammar.now.words.now).N }
+        requires within { ask.place ≤ self.now.size }
+        ensures { (n : ℕ) → Entered (setting (meaning self.now.grammar.now.words.now) T.fits (T.elements self.now.text.now) self.now.frames M.keeps (M.P memory.now) (M.Q memory.now)) (store (M.table memory.now) n) height ask.expression ask.place ask.mode result }
+    {
+        if height >= self.frames {
+            return Err(Refusal::TooDeep);
+        }
+        let Ask { place, mode, .. } = ask;
+        match self.grammar.expr(ask.expression) {
+            Expr::Empty => Ok(Move::Give {
+                reading: alone(place, Outcome::Match { end: place }, None),
             }),
-            None => Ok(Move::Give {
-                reading: alone(
-                    place,
-                    Outcome::Failure {
-                        label: label as u8,
-                        place,
-                    },
-                    Some(Note { place, marks: 0 }),
-                ),
+            Expr::Terminal { a, b, mark } => Ok(Move::Give {
+                reading: terminal(self.text, a, b, mark, place),
             }),
-        },
+            Expr::Call { rule } => self.enter_call(memory, height, ask, rule),
+            Expr::Sequence { first, .. } => Ok(opened(ask, first, mode)),
+            Expr::Choice { first, .. } => Ok(opened(ask, first, mode)),
+            Expr::Repetition { part } => Ok(opened(ask, part, mode)),
+            Expr::Predicate { part } => Ok(opened(ask, part, Mode::Off)),
+            Expr::Throw { label } => match self.grammar.recovers(label, mode) {
+                Some(part) => Ok(opened(ask, part, Mode::On)),
+                None => Ok(Move::Give {
+                    reading: thrown(label as u8, place),
+                }),
+            },
+        }
     }
 }

@@ -1,9 +1,15 @@
 //! The explicit stack: one record of plain numbers for each open expression.
-ghost use Rattle.engine.specs.Frames.{blank};
 ghost use Rattle.std.specs.Prelude.{◌≡◌};
+ghost use Rattle.engine.specs.Frames.{blank, so_far, going_on};
+ghost use Rattle.engine.specs.Machine.{rounds, goes_on_with};
+
+use crate::readings::joined;
+use crate::step::{Ask, Move};
+use peg::results::{Note, Outcome, Reading, Recoveries};
 
 /// An open expression, with what its finished parts gave. Blank is all zero.
-#[derive(Clone, Copy, PartialEq, Eq, Debug)]
+// Lent frames are plain numbers, a form of the project: so `mode`, `stage` and `noted` are no enum, bool or Option.
+#[derive(Clone, Copy, PartialEq, Eq, Debug, Default)]
 pub struct Frame {
     /// The expression's number.
     pub expression: usize,
@@ -38,20 +44,74 @@ impl Frame {
     pub fn blank() -> Frame
         ensures { result ≡ blank }
     {
+        Frame::default()
+    }
+
+    /// What the finished parts came to.
+    pub(crate) fn told_so_far(self) -> Reading
+        ensures { result ≡ so_far self }
+    {
+        Reading {
+            outcome: Outcome::Match { end: self.at },
+            note: (self.noted != 0).then_some(Note {
+                place: self.note,
+                marks: self.marks,
+            }),
+            recoveries: Recoveries {
+                count: self.count,
+                label: self.label,
+                place: self.first,
+            },
+            depth: self.depth,
+            reach: self.reach,
+        }
+    }
+
+    /// The frame with a part finished: its parts came to v, and the next begins at a place.
+    fn next(self, at: usize, v: Reading) -> Frame
+        ensures { result ≡ going_on self at v }
+    {
+        let (noted, note, marks) = match v.note {
+            None => (0, 0, 0),
+            Some(x) => (1, x.place, x.marks),
+        };
         Frame {
-            expression: 0,
-            place: 0,
-            mode: 0,
-            stage: 0,
-            at: 0,
-            noted: 0,
-            note: 0,
-            marks: 0,
-            count: 0,
-            label: 0,
-            first: 0,
-            depth: 0,
-            reach: 0,
+            stage: 1,
+            at,
+            noted,
+            note,
+            marks,
+            count: v.recoveries.count,
+            label: v.recoveries.label,
+            first: v.recoveries.place,
+            depth: v.depth,
+            reach: v.reach,
+            ..self
+        }
+    }
+
+    /// The frame with a part finished, which goes on with another at a place.
+    pub(crate) fn goes_on(self, part: usize, at: usize, v: Reading) -> Move
+        ensures { result ≡ goes_on_with self part at v }
+    {
+        Move::Open {
+            frame: self.next(at, v),
+            ask: Ask {
+                expression: part,
+                place: at,
+                mode: self.mode.into(),
+            },
+        }
+    }
+
+    /// What the rounds of a repetition so far, with one more, came to.
+    pub(crate) fn with_round(self, v: Reading) -> Reading
+        ensures { result ≡ rounds self self.stage v }
+    {
+        if self.stage == 0 {
+            v
+        } else {
+            joined(self.told_so_far(), v)
         }
     }
 }

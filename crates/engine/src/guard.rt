@@ -9,20 +9,12 @@ pub(crate) struct Guard<'a> {
     pub(crate) frames: &'a mut [Frame],
 }
 
-/// Writes blanks over every frame.
-fn blank_all(frames: &mut [Frame])
-    ensures { frames.new ≡ blanked frames.old }
-{
-    for frame in frames.iter_mut() {
-        *frame = Frame::blank();
-    }
-}
-
+// by hand: its end blanks the frames
 impl Drop for Guard<'_> {
     fn drop(self)
         ensures { self.exit.0.now ≡ blanked self.entry.frames.now }
     {
-        blank_all(self.frames);
+        self.frames.fill(Frame::blank());
         let Guard { frames: _ } = self;
     }
 }

@@ -9,4 +9,5 @@ pub mod read;
 mod readings;
 mod resume;
 mod run;
+mod scene;
 mod step;

@@ -1,23 +1,22 @@
 //! Reading a text by a grammar, with a memory and lent frames.
-ghost use Rattle.std.specs.Prelude.{◌≡◌, ℕ, ◌<◌, ◌≤◌, length};
+ghost use Rattle.std.specs.Prelude.{◌≡◌, ◌<◌, ◌≤◌, length};
 ghost use Rattle.grammar.specs.declared.expr.Mode.TheVariants.{On};
 ghost use Rattle.grammar.specs.Questions.{Tells};
 ghost use Rattle.grammar.specs.Words.{meaning};
 ghost use Rattle.engine.specs.Frames.{blanked};
 ghost use Rattle.reading.specs.Reads.{setting, store, rule, Reads};
-ghost use Rattle.engine.specs.Machine.{Sane};
 ghost use Rattle.reading.specs.Promises.{Promised, PromisedByNumber};
 ghost use Rattle.reading.specs.Replies.{answer_of, RefusedBy, Replies};
 
-use crate::find::found;
 use crate::frame::Frame;
 use crate::guard::Guard;
-use crate::resume::{counted, row_at};
+use crate::resume::keep_row;
 use crate::run::evaluate;
+use crate::scene::Scene;
 use grammar::accepted::Grammar;
 use grammar::expr::Mode;
 use memo::memory::Memory;
-use peg::results::Reading;
+use peg::results::{Reading, RulePlace};
 use reading::refusal::Refusal;
 use reading::reply::{Answer, Reply};
 use text::Text;
@@ -26,41 +25,38 @@ use text::Text;
 fn answered(res: Result<Reading, Refusal>) -> Result<Answer, Refusal>
     ensures { result ≡ answer_of res }
 {
-    match res {
-        Ok(reading) => Ok(Answer {
-            outcome: reading.outcome,
-            note: reading.note,
-            recoveries: reading.recoveries,
-        }),
-        Err(refusal) => Err(refusal),
-    }
+    res.map(|reading| Answer {
+        outcome: reading.outcome,
+        note: reading.note,
+        recoveries: reading.recoveries,
+    })
 }
 
 /// Rule 0 in mode on at place 0.
+const ROOT: RulePlace = RulePlace {
+    rule: 0,
+    place: 0,
+    mode: Mode::On,
+};
+
+/// What the root gives.
 fn root<T: Text, M: Memory>(
-    grammar: &Grammar<'_>,
-    text: &T,
+    scene: &Scene<'_, T>,
     memory: &mut M,
     fresh: &mut u32,
     frames: &mut [Frame],
 ) -> Result<Reading, Refusal>
-    requires sane { Sane (setting (meaning grammar.now.words.now) T.fits (T.elements text.now) (length frames.old) M.keeps (M.P memory.old) (M.Q memory.old)) }
-    requires some { 0 < (meaning grammar.now.words.now).R }
-    ensures reads { Reads (setting (meaning grammar.now.words.now) T.fits (T.elements text.now) (length frames.old) M.keeps (M.P memory.old) (M.Q memory.old)) 0 (store (M.table memory.old) fresh.old) (rule 0) 0 On result (store (M.table memory.new) fresh.new) }
+    requires { scene.now.frames ≡ length frames.old }
+    ensures reads { Reads (setting (meaning scene.now.grammar.now.words.now) T.fits (T.elements scene.now.text.now) scene.now.frames M.keeps (M.P memory.old) (M.Q memory.old)) 0 (store (M.table memory.old) fresh.old) (rule 0) 0 On result (store (M.table memory.new) fresh.new) }
     ensures places { M.P memory.new ≡ M.P memory.old }
     ensures rules { M.Q memory.new ≡ M.Q memory.old }
 {
-    match memory.look(0, 0, Mode::On) {
-        Some(row) => found(grammar, text.size(), frames.len(), 0, 0, Mode::On, row),
-        None => match evaluate(grammar, text, memory, fresh, frames, grammar.body(0)) {
-            Err(refusal) => Err(refusal),
-            Ok(reading) => {
-                memory.put(0, 0, Mode::On, row_at(0, reading));
-                *fresh = counted(*fresh);
-                Ok(reading)
-            }
-        },
+    if let Some(row) = memory.look(ROOT) {
+        return scene.found(scene.frames, ROOT, row);
     }
+    let reading = evaluate(scene, memory, fresh, frames, scene.grammar.body(0))?;
+    keep_row(memory, fresh, ROOT, reading);
+    Ok(reading)
 }
 
 /// Whether a memory has places above the text's capacity, and rules for all of the grammar's.
@@ -102,7 +98,13 @@ pub fn read<T: Text, M: Memory>(
         };
     }
     let mut fresh = 0;
-    let result = root(grammar, text, memory, &mut fresh, guard.frames);
+    let scene = Scene {
+        grammar,
+        text,
+        size: text.size(),
+        frames: guard.frames.len(),
+    };
+    let result = root(&scene, memory, &mut fresh, guard.frames);
     Reply {
         result: answered(result),
         fresh,

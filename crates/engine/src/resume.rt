@@ -1,110 +1,23 @@
 //! A frame is handed what its open part gave: it gives in turn, or goes on with another part.
-ghost use Rattle.std.specs.Prelude.{◌≡◌, ℕ, ◌+◌, ◌-◌, ◌^◌, ◌<◌, ◌≤◌, min};
+ghost use Rattle.std.specs.Prelude.{◌≡◌, ℕ, ◌+◌, ◌^◌, ◌<◌};
 ghost use Rattle.grammar.specs.Words.{meaning};
-ghost use Rattle.engine.specs.Frames.{mode_by, note_by, so_far, noted_number, noted_at, going_on};
-ghost use Rattle.reading.specs.Reads.{Setting, Store, store, row_of, most_fresh, matches, label_of, place_of, noted, noted_place, noted_marks};
-ghost use Rattle.engine.specs.Machine.{rounds, finish, read_unmatched, Sane, Awaiting, Fine, Shallow, Handed, Resumed};
+ghost use Rattle.engine.specs.Frames.{so_far};
+ghost use Rattle.reading.specs.Reads.{Setting, Store, store, row_of, Stores};
+ghost use Rattle.engine.specs.Machine.{finish, Sane, Awaiting, Fine, Handed, Resumes, Resumed, GoesBy};
 ghost use Rattle.grammar.specs.declared.expr.Expr.TheVariants.{Sequence, Choice, Repetition, Call, Predicate, Throw};
 ghost use Rattle.peg.specs.Rules.{caught};
 
 use crate::frame::Frame;
-use crate::readings::{deeper, ended, joined, other, predicate, recovery, round, sequence};
+use crate::readings::Part;
 use crate::step::Move;
 use grammar::accepted::Grammar;
-use grammar::expr::{Expr, Mode};
+use grammar::expr::Expr;
 use memo::memory::Memory;
 use memo::row::Row;
-use peg::results::{Note, Outcome, Reading, Recoveries};
-
-/// The mode that a frame holds.
-fn mode_of(number: u8) -> Mode
-    ensures { result ≡ mode_by number }
-{
-    if number == 0 { Mode::On } else { Mode::Off }
-}
-
-/// What the finished parts of a frame came to.
-fn told_so_far(frame: Frame) -> Reading
-    ensures { result ≡ so_far frame }
-{
-    let note = if frame.noted == 0 {
-        None
-    } else {
-        Some(Note {
-            place: frame.note,
-            marks: frame.marks,
-        })
-    };
-    Reading {
-        outcome: Outcome::Match { end: frame.at },
-        note,
-        recoveries: Recoveries {
-            count: frame.count,
-            label: frame.label,
-            place: frame.first,
-        },
-        depth: frame.depth,
-        reach: frame.reach,
-    }
-}
-
-/// The frame with a part finished: its parts came to v, and the next begins at a place.
-fn next(frame: Frame, at: usize, v: Reading) -> Frame
-    ensures { result ≡ going_on frame at v }
-{
-    let (noted, note, marks) = match v.note {
-        None => (0, 0, 0),
-        Some(x) => (1, x.place, x.marks),
-    };
-    Frame {
-        expression: frame.expression,
-        place: frame.place,
-        mode: frame.mode,
-        stage: 1,
-        at,
-        noted,
-        note,
-        marks,
-        count: v.recoveries.count,
-        label: v.recoveries.label,
-        first: v.recoveries.place,
-        depth: v.depth,
-        reach: v.reach,
-    }
-}
-
-/// What the rounds of a repetition so far, with one more, came to.
-fn with_round(frame: Frame, v: Reading) -> Reading
-    ensures { result ≡ rounds frame frame.stage v }
-{
-    if frame.stage == 0 {
-        v
-    } else {
-        joined(told_so_far(frame), v)
-    }
-}
-
-/// What a repetition gives, from what it gives after the rounds so far.
-fn after_rounds(frame: Frame, w: Reading) -> Reading
-    requires { frame.depth + 1 < 2 ^ 64 }
-    ensures { result ≡ finish frame frame.stage w }
-{
-    if frame.stage == 0 {
-        w
-    } else {
-        round(told_so_far(frame), w)
-    }
-}
-
-/// One more, up to where the count of rows put stops.
-pub(crate) fn counted(fresh: u32) -> u32
-    ensures { result ≡ min (fresh + 1) most_fresh }
-{
-    fresh.saturating_add(1)
-}
+use peg::results::{Outcome, Reading, RulePlace};
 
 /// The row of what a rule gave at a place.
-pub(crate) fn row_at(place: usize, v: Reading) -> Row
+fn row_at(place: usize, v: Reading) -> Row
     requires small { Fine v }
     ensures { result ≡ row_of place v }
 {
@@ -131,25 +44,16 @@ pub(crate) fn row_at(place: usize, v: Reading) -> Row
     }
 }
 
-/// A sequence.
-fn after_sequence(frame: Frame, second: usize, v: Reading) -> Move
-    requires { Shallow frame v }
-    ensures { (G : Setting) (T : Store) (h a : ℕ) → Sane G → Awaiting G h frame v → G.grammar.expr frame.expression ≡ Sequence a second → Resumed G T T h frame v result }
+/// Puts the row of what a rule gave at its rule-place, and counts it, up to where the count stops.
+// The memory and the count are two parameters throughout: a struct of both would hold a loan, and each clause would have to name it again.
+pub(crate) fn keep_row<M: Memory>(memory: &mut M, fresh: &mut u32, at: RulePlace, v: Reading)
+    requires { Fine v }
+    ensures stores { (G : Setting) → GoesBy G M.keeps (M.P memory.old) (M.Q memory.old) → Stores G (store (M.table memory.old) fresh.old) at.rule at.place at.mode (row_of at.place v) (store (M.table memory.new) fresh.new) }
+    ensures places { M.P memory.new ≡ M.P memory.old }
+    ensures rules { M.Q memory.new ≡ M.Q memory.old }
 {
-    if frame.stage != 0 {
-        return Move::Give {
-            reading: sequence(told_so_far(frame), v),
-        };
-    }
-    match v.outcome {
-        Outcome::Match { end } => Move::Open {
-            frame: next(frame, end, v),
-            part: second,
-            place: end,
-            mode: mode_of(frame.mode),
-        },
-        Outcome::Failure { label: _, place: _ } => Move::Give { reading: deeper(v) },
-    }
+    memory.put(at, row_at(at.place, v));
+    *fresh = fresh.saturating_add(1);
 }
 
 /// Whether a set catches an outcome.
@@ -157,85 +61,108 @@ fn is_caught(grammar: &Grammar<'_>, set: usize, outcome: Outcome) -> bool
     ensures { result ≡ caught (meaning grammar.now.words.now) set outcome }
 {
     match outcome {
-        Outcome::Match { end: _ } => false,
-        Outcome::Failure { label, place: _ } => grammar.catches(set, label as usize),
+        Outcome::Match { .. } => false,
+        Outcome::Failure { label, .. } => grammar.catches(set, label as usize),
     }
 }
 
-/// A choice.
-fn after_choice(grammar: &Grammar<'_>, frame: Frame, second: usize, set: usize, v: Reading) -> Move
-    requires { Shallow frame v }
-    ensures { (G : Setting) (T : Store) (h a : ℕ) → G.grammar ≡ meaning grammar.now.words.now → Sane G → Awaiting G h frame v → G.grammar.expr frame.expression ≡ Choice a second set → Resumed G T T h frame v result }
-{
-    if frame.stage != 0 {
-        return Move::Give {
-            reading: other(told_so_far(frame), v),
-        };
-    }
-    if is_caught(grammar, set, v.outcome) {
-        Move::Open {
-            frame: next(frame, frame.place, v),
-            part: second,
-            place: frame.place,
-            mode: mode_of(frame.mode),
-        }
-    } else {
-        Move::Give { reading: deeper(v) }
-    }
-}
-
-/// A repetition from a place on whose part failed: label 0 ends it there.
-fn unmatched(place: usize, label: u8, v: Reading) -> Reading
-    requires { v.depth + 1 < 2 ^ 64 }
-    ensures { result ≡ read_unmatched place label v }
-{
-    if label == 0 {
-        ended(place, v)
-    } else {
-        deeper(v)
-    }
-}
-
-/// A repetition.
-fn after_round(frame: Frame, part: usize, v: Reading) -> Move
-    requires { Shallow frame v }
-    ensures { (G : Setting) (T : Store) (h : ℕ) → Sane G → Awaiting G h frame v → G.grammar.expr frame.expression ≡ Repetition part → Resumed G T T h frame v result }
-{
-    match v.outcome {
-        Outcome::Match { end } => Move::Open {
-            frame: next(frame, end, with_round(frame, v)),
-            part,
-            place: end,
-            mode: mode_of(frame.mode),
-        },
-        Outcome::Failure { label, place: _ } => Move::Give {
-            reading: after_rounds(frame, unmatched(frame.at, label, v)),
-        },
-    }
-}
-
-/// A call: the row of what its rule gave is put.
-fn after_call<M: Memory>(
-    memory: &mut M,
-    fresh: &mut u32,
+/// A frame, handed what its open part gave.
+#[derive(Clone, Copy)]
+struct Handover {
     frame: Frame,
-    rule: usize,
-    v: Reading,
-) -> Move
-    requires shallow { Shallow frame v }
-    requires fine { Fine v }
-    ensures resumed { (G : Setting) (h : ℕ) → G.keeps ≡ M.keeps → G.P ≡ M.P memory.old → G.Q ≡ M.Q memory.old → Sane G → Awaiting G h frame v → G.grammar.expr frame.expression ≡ Call rule → Resumed G (store (M.table memory.old) fresh.old) (store (M.table memory.new) fresh.new) h frame v result }
-    ensures places { M.P memory.new ≡ M.P memory.old }
-    ensures rules { M.Q memory.new ≡ M.Q memory.old }
-{
-    memory.put(
-        rule,
-        frame.place,
-        mode_of(frame.mode),
-        row_at(frame.place, v),
-    );
-    *fresh = counted(*fresh);
-    Move::Give { reading: deeper(v) }
+    part: Part,
+    ghost shallow: { frame.depth + 1 < 2 ^ 64 },
+}
+
+impl Handover {
+    /// What the finished parts came to.
+    fn so_far(self) -> Part
+        ensures { result.reading ≡ so_far self.frame }
+    {
+        Part {
+            reading: self.frame.told_so_far(),
+        }
+    }
+
+    /// What a repetition gives, from what it gives after the rounds so far.
+    fn after_rounds(self, rest: Reading) -> Reading
+        ensures { result ≡ finish self.frame self.frame.stage rest }
+    {
+        if self.frame.stage == 0 {
+            rest
+        } else {
+            self.so_far().round(rest)
+        }
+    }
+
+    /// A sequence.
+    fn after_sequence(self, second: usize) -> Move
+        ensures { (G : Setting) (T : Store) (h a : ℕ) → Resumes G h self.frame self.part.reading (Sequence a second) T T result }
+    {
+        let Handover { frame, part } = self;
+        if frame.stage != 0 {
+            return Move::Give {
+                reading: self.so_far().sequence(part),
+            };
+        }
+        match part.reading.outcome {
+            Outcome::Match { end } => frame.goes_on(second, end, part.reading),
+            Outcome::Failure { .. } => Move::Give {
+                reading: part.deeper(),
+            },
+        }
+    }
+
+    /// A choice.
+    fn after_choice(self, grammar: &Grammar<'_>, second: usize, set: usize) -> Move
+        ensures { (G : Setting) (T : Store) (h a : ℕ) → G.grammar ≡ meaning grammar.now.words.now → Resumes G h self.frame self.part.reading (Choice a second set) T T result }
+    {
+        let Handover { frame, part } = self;
+        if frame.stage != 0 {
+            return Move::Give {
+                reading: self.so_far().other(part),
+            };
+        }
+        if is_caught(grammar, set, part.reading.outcome) {
+            frame.goes_on(second, frame.place, part.reading)
+        } else {
+            Move::Give {
+                reading: part.deeper(),
+            }
+        }
+    }
+
+    /// A repetition.
+    fn after_round(self, again: usize) -> Move
+        ensures { (G : Setting) (T : Store) (h : ℕ) → Resumes G h self.frame self.part.reading (Repetition again) T T result }
+    {
+        let Handover { frame, part } = self;
+        match part.reading.outcome {
+            Outcome::Match { end } => frame.goes_on(again, end, frame.with_round(part.reading)),
+            Outcome::Failure { label, .. } => Move::Give {
+                reading: self.after_rounds(part.unmatched(frame.at, label)),
+            },
+        }
+    }
+
+    /// A call: the row of what its rule gave is put.
+    fn after_call<M: Memory>(self, memory: &mut M, fresh: &mut u32, rule: usize) -> Move
+        requires { Fine self.part.reading }
+        ensures resumed { (G : Setting) (h : ℕ) → GoesBy G M.keeps (M.P memory.old) (M.Q memory.old) → Resumes G h self.frame self.part.reading (Call rule) (store (M.table memory.old) fresh.old) (store (M.table memory.new) fresh.new) result }
+        ensures places { M.P memory.new ≡ M.P memory.old }
+        ensures rules { M.Q memory.new ≡ M.Q memory.old }
+    {
+        let Handover { frame, part } = self;
+        let at = RulePlace {
+            rule,
+            place: frame.place,
+            mode: frame.mode.into(),
+        };
+        keep_row(memory, fresh, at, part.reading);
+        Move::Give {
+            reading: part.deeper(),
+        }
+    }
 }
 
 /// Hands a frame, below which so many are open, what its open part gave.
@@ -248,30 +175,24 @@ pub(crate) fn resume<M: Memory>(
     v: Reading,
 ) -> Move
     requires { Handed (meaning grammar.now.words.now) level frame v }
-    ensures resumed { (G : Setting) → G.grammar ≡ meaning grammar.now.words.now → G.keeps ≡ M.keeps → G.P ≡ M.P memory.old → G.Q ≡ M.Q memory.old → Sane G → Awaiting G level frame v → Resumed G (store (M.table memory.old) fresh.old) (store (M.table memory.new) fresh.new) level frame v result }
+    ensures resumed { (G : Setting) → G.grammar ≡ meaning grammar.now.words.now → GoesBy G M.keeps (M.P memory.old) (M.Q memory.old) → Sane G → Awaiting G level frame v → Resumed G (store (M.table memory.old) fresh.old) (store (M.table memory.new) fresh.new) level frame v result }
     ensures places { M.P memory.new ≡ M.P memory.old }
     ensures rules { M.Q memory.new ≡ M.Q memory.old }
 {
+    let part = Part { reading: v };
+    let handover = Handover { frame, part };
     match grammar.expr(frame.expression) {
         Expr::Empty => unreachable(),
-        Expr::Terminal {
-            a: _,
-            b: _,
-            mark: _,
-        } => unreachable(),
-        Expr::Call { rule } => after_call(memory, fresh, frame, rule, v),
-        Expr::Sequence { first: _, second } => after_sequence(frame, second, v),
-        Expr::Choice {
-            first: _,
-            second,
-            set,
-        } => after_choice(grammar, frame, second, set, v),
-        Expr::Repetition { part } => after_round(frame, part, v),
-        Expr::Predicate { part: _ } => Move::Give {
-            reading: predicate(frame.place, v),
+        Expr::Terminal { .. } => unreachable(),
+        Expr::Call { rule } => handover.after_call(memory, fresh, rule),
+        Expr::Sequence { second, .. } => handover.after_sequence(second),
+        Expr::Choice { second, set, .. } => handover.after_choice(grammar, second, set),
+        Expr::Repetition { part: again } => handover.after_round(again),
+        Expr::Predicate { .. } => Move::Give {
+            reading: part.predicate(frame.place),
         },
         Expr::Throw { label } => Move::Give {
-            reading: recovery(label as u8, frame.place, v),
+            reading: part.recovery(label as u8, frame.place),
         },
     }
 }

@@ -3,31 +3,27 @@ use crate::frame::Frame;
 use grammar::expr::Mode;
 use peg::results::Reading;
 
+/// An expression to be evaluated at a place in a mode.
+#[derive(Clone, Copy)]
+pub(crate) struct Ask {
+    pub(crate) expression: usize,
+    pub(crate) place: usize,
+    pub(crate) mode: Mode,
+}
+
 /// What entering an expression, or resuming a frame, comes to.
 #[derive(Clone, Copy)]
 pub(crate) enum Move {
-    /// The frame is open, and goes on with a part at a place in a mode.
-    Open {
-        frame: Frame,
-        part: usize,
-        place: usize,
-        mode: Mode,
-    },
+    /// The frame is open, and goes on with a part.
+    Open { frame: Frame, ask: Ask },
     /// The expression gives this.
-    Give {
-        reading: Reading,
-    },
+    Give { reading: Reading },
 }
 
 /// What comes next.
+// The loop goes by it in place of recursion: what is open stands in lent frames, a form of the project.
 #[derive(Clone, Copy)]
 pub(crate) enum Control {
-    Evaluate {
-        part: usize,
-        place: usize,
-        mode: Mode,
-    },
-    Return {
-        reading: Reading,
-    },
+    Evaluate { ask: Ask },
+    Return { reading: Reading },
 }

@@ -7,43 +7,17 @@ mod tests {
     use engine::read::read;
     use grammar::accepted::{Grammar, check as accept};
     use grammar::expr::Mode;
+    use grammar::site::SITE;
     use memo::memory::Memory;
     use memo::ring::state::Ring;
     use memo::row::Row;
     use memo::whole::WholeMemory;
-    use peg::results::{Note, Outcome, Recoveries};
+    use peg::results::{Note, Outcome, Recoveries, RulePlace};
     use reading::refusal::Refusal;
     use reading::reply::{Answer, Reply};
     use std::process::Abort;
     use std::test::Fail;
     use text::{ByteBuffer, FixedBytes, Text};
-
-    // Site files: rule 0 is lines and then the end, rule 1 a line, rule 2 a digit; label 1 is a missing semicolon.
-    static SITE: [u32; 23] = [
-        0x8044_0301,
-        0x9034_0000,
-        0x9024_0000,
-        0x9004_0000,
-        0xA040_0100,
-        0xB000_0001,
-        0x1130_4C00,
-        0x10C0_3901,
-        0x10EC_3B02,
-        0x1000_FF03,
-        0x2008_0000,
-        0x5010_0000,
-        0x7004_0000,
-        0x4008_0600,
-        0x3014_0700,
-        0x3000_0800,
-        0x2004_0000,
-        0x5028_0000,
-        0x600C_0000,
-        0x302C_0C00,
-        0x6000_0000,
-        0x3038_0300,
-        0x503C_0000,
-    ];
 
     // A match of one element, which looked at the next.
     const ROW: Row = Row {
@@ -60,20 +34,20 @@ mod tests {
         reach: 2,
     };
 
+    // A rule at a place in mode on.
+    fn on(rule: usize, place: usize) -> RulePlace {
+        RulePlace {
+            rule,
+            place,
+            mode: Mode::On,
+        }
+    }
+
     fn refused(refusal: Refusal, fresh: u32) -> Reply {
         Reply {
             result: Err(refusal),
             fresh,
         }
-    }
-
-    fn all_blank(frames: &[Frame]) -> bool {
-        for frame in frames {
-            if *frame != Frame::blank() {
-                return false;
-            }
-        }
-        true
     }
 
     // A reading with frames that hold anything at the call, and are all blank afterwards.
@@ -84,17 +58,15 @@ mod tests {
         memory: &mut M,
         frames: &mut [Frame],
     ) -> Reply {
-        for frame in frames.iter_mut() {
-            *frame = Frame {
-                expression: 9,
-                place: 9,
-                stage: 1,
-                depth: 9,
-                ..Frame::blank()
-            };
-        }
+        frames.fill(Frame {
+            expression: 9,
+            place: 9,
+            stage: 1,
+            depth: 9,
+            ..Frame::blank()
+        });
         let reply = read(grammar, text, memory, frames);
-        assert!(rt; all_blank(frames));
+        assert!(rt; frames.iter().all(|frame| *frame == Frame::blank()));
         reply
     }
 
@@ -105,8 +77,7 @@ mod tests {
         memory: &mut M,
         frames: &mut [Frame],
     ) -> Result<Reply, Fail> {
-        let mut grammar = Grammar::smallest();
-        accept(&SITE, &mut [0; 34], &mut grammar)?;
+        let grammar = accept(&SITE, &mut [0; 34])?;
         let (text, made) = FixedBytes::new(bytes, bytes.len());
         made?;
         Ok(read_with(rt, &grammar, &text, memory, frames))
@@ -120,8 +91,8 @@ mod tests {
         row: Row,
     ) -> Result<Reply, Fail> {
         memory.empty();
-        memory.put(1, 0, Mode::On, Row { end: 2, ..ROW });
-        memory.put(1, 2, Mode::On, row);
+        memory.put(on(1, 0), Row { end: 2, ..ROW });
+        memory.put(on(1, 2), row);
         read_site(rt, b"L1;", memory, &mut [Frame::blank(); 8])
     }
 
@@ -205,7 +176,7 @@ mod tests {
         assert!(rt; with_second_line(&rt, &mut ring, idle)?.result.is_ok());
         assert!(rt; with_second_line(&rt, &mut ring, failed)?.result.is_ok());
         ring.empty();
-        ring.put(0, 0, Mode::On, Row { end: 0, ..ROW });
+        ring.put(on(0, 0), Row { end: 0, ..ROW });
         assert!(rt;
             read_site(&rt, b"L1;", &mut ring, &mut [Frame::blank(); 8])?
                 .result
@@ -227,15 +198,16 @@ mod tests {
             0x2004_0000,
             0x6008_0000,
         ];
-        let mut grammar = Grammar::smallest();
-        accept(&words, &mut [0; 8], &mut grammar)?;
+        let grammar = accept(&words, &mut [0; 8])?;
         let (text, made) = FixedBytes::new(b"", 0);
         made?;
         let mut ring = Ring::new();
         ring.put(
-            1,
-            0,
-            mode,
+            RulePlace {
+                rule: 1,
+                place: 0,
+                mode,
+            },
             Row {
                 end: 0,
                 reach: 1,
@@ -338,12 +310,12 @@ mod tests {
             read_site(&rt, b"L1;", &mut ring, &mut [])?,
             refused(Refusal::TooDeep, 0)
         );
-        ring.put(0, 0, Mode::On, LIE);
+        ring.put(on(0, 0), LIE);
         assert_eq!(rt;
             read_site(&rt, b"L1;", &mut ring, &mut [])?,
             told(0x8000_0000, 0)
         );
-        ring.put(0, 0, Mode::On, Row { depth: 1, ..LIE });
+        ring.put(on(0, 0), Row { depth: 1, ..LIE });
         assert_eq!(rt;
             read_site(&rt, b"L1;", &mut ring, &mut [])?,
             refused(Refusal::TooDeep, 0)
@@ -353,13 +325,13 @@ mod tests {
             told(0x8000_0000, 0)
         );
         ring.empty();
-        ring.put(1, 0, Mode::On, LIE);
+        ring.put(on(1, 0), LIE);
         assert_eq!(rt;
             read_site(&rt, b"L1;", &mut ring, &mut [Frame::blank(); 8])?,
             told(0x8000_0001, 2)
         );
-        assert_eq!(rt; ring.look(2, 1, Mode::On), None);
-        assert_eq!(rt; ring.look(1, 0, Mode::On), Some(LIE));
+        assert_eq!(rt; ring.look(on(2, 1)), None);
+        assert_eq!(rt; ring.look(on(1, 0)), Some(LIE));
         Ok(())
     }
 
@@ -373,8 +345,8 @@ mod tests {
             read_site(&rt, b"L1L2;", &mut memory, &mut [Frame::blank(); 8])?,
             refused(Refusal::TooDeep, 2)
         );
-        assert!(rt; memory.look(2, 1, Mode::On).is_some() && memory.look(2, 2, Mode::On).is_some());
-        assert_eq!(rt; memory.look(1, 0, Mode::On), None);
+        assert!(rt; memory.look(on(2, 1)).is_some() && memory.look(on(2, 2)).is_some());
+        assert_eq!(rt; memory.look(on(1, 0)), None);
         assert_eq!(rt;
             read_site(&rt, b"L1L2;", &mut memory, &mut [Frame::blank(); 11])?.fresh,
             6
@@ -386,28 +358,27 @@ mod tests {
     #[test]
     fn rows_stay_after_unfit(rt: HostRuntime) -> Result<(), Fail> {
         let mut ring = Ring::new();
-        ring.put(1, 3, Mode::On, Row { end: 0, ..ROW });
+        ring.put(on(1, 3), Row { end: 0, ..ROW });
         assert_eq!(rt;
             read_site(&rt, b"L1;", &mut ring, &mut [Frame::blank(); 8])?,
             refused(Refusal::Unfit, 3)
         );
-        assert!(rt; ring.look(1, 0, Mode::On).is_some());
+        assert!(rt; ring.look(on(1, 0)).is_some());
         Ok(())
     }
 
     // A buffer of four bytes, three of them text, and a memory of so many places and rules, which holds a root that lies.
     fn over(rt: &impl Abort, places: usize, rules: usize) -> Result<Reply, Fail> {
-        let mut grammar = Grammar::smallest();
-        accept(&SITE, &mut [0; 34], &mut grammar)?;
+        let grammar = accept(&SITE, &mut [0; 34])?;
         let mut bytes = *b"L1; ";
         let (text, made) = ByteBuffer::new(&mut bytes, 3);
         made?;
         let mut words = [0; 240];
         let (mut memory, made) = WholeMemory::new(&mut words, places, rules);
         made?;
-        memory.put(0, 0, Mode::On, LIE);
+        memory.put(on(0, 0), LIE);
         let reply = read_with(rt, &grammar, &text, &mut memory, &mut [Frame::blank(); 8]);
-        assert_eq!(rt; memory.look(0, 0, Mode::On), Some(LIE));
+        assert_eq!(rt; memory.look(on(0, 0)), Some(LIE));
         Ok(reply)
     }
 

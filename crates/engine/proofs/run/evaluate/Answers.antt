@@ -1,106 +1,51 @@
-use Rattle.std.proofs.Common.{◌≡◌, length, Ok, Err, sym, refl, ◌∙◌, arith}
+use Rattle.std.proofs.Common.{Ok, Err, sym, refl, ◌∙◌, arith}
+use Rattle.std.proofs.lemmas.Result.{err_from_is_err_and}
 use Rattle.grammar.specs.Words.{meaning}
-use Rattle.reading.specs.Reads.{Setting, setting, Store, store, Res}
-use Rattle.engine.proofs.Turns.{Goal, entered_in, opened_at, given_at, entered_refused, entered_give, entered_give_less, entered_open, entered_open_less, resumed_awaiting, resumed_give, resumed_give_less, resumed_open, resumed_open_less}
+use Rattle.reading.specs.Reads.{setting, store}
+use Rattle.engine.proofs.Settings.{sane}
+use Rattle.engine.proofs.Turns.{entered_in, entered_refused, entered_room, entered_goes, entered_less, resumed_awaiting, resumed_goes, resumed_less}
 use Rattle.engine.proofs.run.evaluate.Goals as goal
 
-pub bounds-frames-height : goal.bounds-frames-height
-bounds-frames-height g c =
-    let G : Setting = setting (meaning c.args.grammar.now.words.now) g.T.Text.fits (g.T.Text.elements c.args.text.now) (length c.args.frames.now) g.M.Memory.keeps (g.M.Memory.P c.args.memory.now) (g.M.Memory.Q c.args.memory.now) in
-    let Ask : Res → Store → Type 0 = Goal G (store (g.M.Memory.table c.args.memory.now) c.args.fresh.now) c.args.root in
-    let T : Store = store (g.M.Memory.table c.turns.memory) c.turns.fresh in
-    let h = c.turns.height in
-    let fit : length c.turns.frames ≡ length c.args.frames.now = c.turns.auto.frames in
-    let o = (opened_at G T h c.in-Evaluate.part c.in-Evaluate.place c.in-Evaluate.mode c.in-Open.is (entered_in (meaning c.args.grammar.now.words.now) g.T.Text.fits (g.T.Text.elements c.args.text.now) (length c.args.frames.now) g.M.Memory.keeps _ _ _ _ c.turns.invariant.1 c.turns.invariant.2.0 T h c.in-Evaluate.part c.in-Evaluate.place c.in-Evaluate.mode (Ok c.in-Ok.step) (c.in-Ok.ensures c.turns.fresh))) in
-    omega (arith, o.level)
+pub returns-in_err-step-in-Evaluate-clause-reads : goal.returns-in_err-step-in-Evaluate-clause-reads
+returns-in_err-step-in-Evaluate-clause-reads g c =
+    let p = err_from_is_err_and c.from_residual.result c.from_residual.ensures.1 in
+    let refused = entered_in (meaning c.args.scene.now.grammar.now.words.now) g.T.Text.fits (g.T.Text.elements c.args.scene.now.text.now) c.args.scene.now.frames g.M.Memory.keeps c.turns.invariant.places c.turns.invariant.rules (store (g.M.Memory.table c.turns.memory) c.turns.fresh) c.turns.height c.in-Evaluate.ask (Err c.in_err-step-in-Evaluate.field-0.0) (c.in_err-step-in-Evaluate.ensures c.turns.fresh) in
+    rw (p.1, p.2) (entered_refused c.turns.invariant.turn c.in-Evaluate.is _ refused)
 
-pub turns-smaller-in-Open : goal.turns-smaller-in-Open
-turns-smaller-in-Open g c =
-    let G : Setting = setting (meaning c.args.grammar.now.words.now) g.T.Text.fits (g.T.Text.elements c.args.text.now) (length c.args.frames.now) g.M.Memory.keeps (g.M.Memory.P c.args.memory.now) (g.M.Memory.Q c.args.memory.now) in
-    let Ask : Res → Store → Type 0 = Goal G (store (g.M.Memory.table c.args.memory.now) c.args.fresh.now) c.args.root in
-    let T : Store = store (g.M.Memory.table c.turns.memory) c.turns.fresh in
-    let h = c.turns.height in
-    let fit : length c.turns.frames ≡ length c.args.frames.now = c.turns.auto.frames in
-    entered_open_less G Ask T c.turns.frames h c.turns.control fit c.turns.invariant.2.1 c.in-Evaluate.part c.in-Evaluate.place c.in-Open.inner c.in-Open.at c.in-Evaluate.mode c.in-Open.within c.in-Open.frame c.in-Evaluate.is (opened_at G T h c.in-Evaluate.part c.in-Evaluate.place c.in-Evaluate.mode c.in-Open.is (entered_in (meaning c.args.grammar.now.words.now) g.T.Text.fits (g.T.Text.elements c.args.text.now) (length c.args.frames.now) g.M.Memory.keeps _ _ _ _ c.turns.invariant.1 c.turns.invariant.2.0 T h c.in-Evaluate.part c.in-Evaluate.place c.in-Evaluate.mode (Ok c.in-Ok.step) (c.in-Ok.ensures c.turns.fresh)))
+pub resume-step-requires : goal.resume-step-requires
+resume-step-requires g c = record {
+  setting = setting (meaning c.args.scene.now.grammar.now.words.now) g.T.Text.fits (g.T.Text.elements c.args.scene.now.text.now) c.args.scene.now.frames g.M.Memory.keeps (g.M.Memory.P c.args.memory.now) (g.M.Memory.Q c.args.memory.now);
+  of = refl;
+  sane = sane c.args.scene.now.grammar.now g.T.Text.fits (g.T.Text.elements c.args.scene.now.text.now) c.args.scene.now.size c.args.scene.now.frames g.M.Memory.keeps (g.M.Memory.P c.args.memory.now) (g.M.Memory.Q c.args.memory.now) c.args.scene.now.whole c.args.scene.now.small;
+  small = omega arith;
+  awaiting = (resumed_awaiting c.turns.invariant.turn c.in-Return.is (omega arith));
+}
 
-pub turns-preserved-in-Open : goal.turns-preserved-in-Open
-turns-preserved-in-Open g c =
-    let G : Setting = setting (meaning c.args.grammar.now.words.now) g.T.Text.fits (g.T.Text.elements c.args.text.now) (length c.args.frames.now) g.M.Memory.keeps (g.M.Memory.P c.args.memory.now) (g.M.Memory.Q c.args.memory.now) in
-    let Ask : Res → Store → Type 0 = Goal G (store (g.M.Memory.table c.args.memory.now) c.args.fresh.now) c.args.root in
-    let T : Store = store (g.M.Memory.table c.turns.memory) c.turns.fresh in
-    let h = c.turns.height in
-    let fit : length c.turns.frames ≡ length c.args.frames.now = c.turns.auto.frames in
-    let o = entered_open G Ask T c.turns.frames h c.turns.control fit c.turns.invariant.2.1 c.in-Evaluate.part c.in-Evaluate.place c.in-Open.inner c.in-Open.at c.in-Evaluate.mode c.in-Open.within c.in-Open.frame c.in-Evaluate.is (opened_at G T h c.in-Evaluate.part c.in-Evaluate.place c.in-Evaluate.mode c.in-Open.is (entered_in (meaning c.args.grammar.now.words.now) g.T.Text.fits (g.T.Text.elements c.args.text.now) (length c.args.frames.now) g.M.Memory.keeps _ _ _ _ c.turns.invariant.1 c.turns.invariant.2.0 T h c.in-Evaluate.part c.in-Evaluate.place c.in-Evaluate.mode (Ok c.in-Ok.step) (c.in-Ok.ensures c.turns.fresh))) in
-    (o.0, c.turns.invariant.1, (c.turns.invariant.2.0, o.1))
+pub taken-requires : goal.taken-requires
+taken-requires g c = entered_room c.turns.invariant.turn c.in-Evaluate.is c.in_ok-step-in-Evaluate.step (entered_in (meaning c.args.scene.now.grammar.now.words.now) g.T.Text.fits (g.T.Text.elements c.args.scene.now.text.now) c.args.scene.now.frames g.M.Memory.keeps c.turns.invariant.places c.turns.invariant.rules (store (g.M.Memory.table c.turns.memory) c.turns.fresh) c.turns.height c.in-Evaluate.ask (Ok c.in_ok-step-in-Evaluate.step) (c.in_ok-step-in-Evaluate.ensures c.turns.fresh))
 
-pub turns-smaller-in-Give : goal.turns-smaller-in-Give
-turns-smaller-in-Give g c =
-    let G : Setting = setting (meaning c.args.grammar.now.words.now) g.T.Text.fits (g.T.Text.elements c.args.text.now) (length c.args.frames.now) g.M.Memory.keeps (g.M.Memory.P c.args.memory.now) (g.M.Memory.Q c.args.memory.now) in
-    let Ask : Res → Store → Type 0 = Goal G (store (g.M.Memory.table c.args.memory.now) c.args.fresh.now) c.args.root in
-    let T : Store = store (g.M.Memory.table c.turns.memory) c.turns.fresh in
-    let h = c.turns.height in
-    let fit : length c.turns.frames ≡ length c.args.frames.now = c.turns.auto.frames in
-    entered_give_less G Ask T c.turns.frames h c.turns.control fit c.turns.invariant.2.1 c.in-Evaluate.part c.in-Evaluate.place c.in-Evaluate.mode c.in-Evaluate.is
+pub turns-smaller-in-Evaluate : goal.turns-smaller-in-Evaluate
+turns-smaller-in-Evaluate g c = entered_less c.turns.invariant.turn c.in-Evaluate.is c.in_ok-step-in-Evaluate.step (entered_in (meaning c.args.scene.now.grammar.now.words.now) g.T.Text.fits (g.T.Text.elements c.args.scene.now.text.now) c.args.scene.now.frames g.M.Memory.keeps c.turns.invariant.places c.turns.invariant.rules (store (g.M.Memory.table c.turns.memory) c.turns.fresh) c.turns.height c.in-Evaluate.ask (Ok c.in_ok-step-in-Evaluate.step) (c.in_ok-step-in-Evaluate.ensures c.turns.fresh)) c.taken.ensures.next c.taken.ensures.held
 
-pub turns-preserved-in-Give : goal.turns-preserved-in-Give
-turns-preserved-in-Give g c =
-    let G : Setting = setting (meaning c.args.grammar.now.words.now) g.T.Text.fits (g.T.Text.elements c.args.text.now) (length c.args.frames.now) g.M.Memory.keeps (g.M.Memory.P c.args.memory.now) (g.M.Memory.Q c.args.memory.now) in
-    let Ask : Res → Store → Type 0 = Goal G (store (g.M.Memory.table c.args.memory.now) c.args.fresh.now) c.args.root in
-    let T : Store = store (g.M.Memory.table c.turns.memory) c.turns.fresh in
-    let h = c.turns.height in
-    let fit : length c.turns.frames ≡ length c.args.frames.now = c.turns.auto.frames in
-    (c.turns.invariant.0, c.turns.invariant.1, (c.turns.invariant.2.0, entered_give G Ask T c.turns.frames h c.turns.control fit c.turns.invariant.2.1 c.in-Evaluate.part c.in-Evaluate.place c.in-Evaluate.mode c.in-Give.reading c.in-Evaluate.is (given_at G T h c.in-Evaluate.part c.in-Evaluate.place c.in-Evaluate.mode c.in-Give.is (entered_in (meaning c.args.grammar.now.words.now) g.T.Text.fits (g.T.Text.elements c.args.text.now) (length c.args.frames.now) g.M.Memory.keeps _ _ _ _ c.turns.invariant.1 c.turns.invariant.2.0 T h c.in-Evaluate.part c.in-Evaluate.place c.in-Evaluate.mode (Ok c.in-Ok.step) (c.in-Ok.ensures c.turns.fresh)))))
-
-pub returns-in-Err : goal.returns-in-Err
-returns-in-Err g c =
-    let G : Setting = setting (meaning c.args.grammar.now.words.now) g.T.Text.fits (g.T.Text.elements c.args.text.now) (length c.args.frames.now) g.M.Memory.keeps (g.M.Memory.P c.args.memory.now) (g.M.Memory.Q c.args.memory.now) in
-    let Ask : Res → Store → Type 0 = Goal G (store (g.M.Memory.table c.args.memory.now) c.args.fresh.now) c.args.root in
-    let T : Store = store (g.M.Memory.table c.turns.memory) c.turns.fresh in
-    let h = c.turns.height in
-    let fit : length c.turns.frames ≡ length c.args.frames.now = c.turns.auto.frames in
-    record { reads = entered_refused G Ask T c.turns.frames h c.turns.control fit c.turns.invariant.2.1 c.in-Evaluate.part c.in-Evaluate.place c.in-Evaluate.mode c.in-Err.refusal c.in-Evaluate.is (entered_in (meaning c.args.grammar.now.words.now) g.T.Text.fits (g.T.Text.elements c.args.text.now) (length c.args.frames.now) g.M.Memory.keeps _ _ _ _ c.turns.invariant.1 c.turns.invariant.2.0 T h c.in-Evaluate.part c.in-Evaluate.place c.in-Evaluate.mode (Err c.in-Err.refusal) (c.in-Err.ensures c.turns.fresh)); fine = tt; places = c.turns.invariant.1; rules = c.turns.invariant.2.0 }
-
-pub resume-requires : goal.resume-requires
-resume-requires g c =
-    let G : Setting = setting (meaning c.args.grammar.now.words.now) g.T.Text.fits (g.T.Text.elements c.args.text.now) (length c.args.frames.now) g.M.Memory.keeps (g.M.Memory.P c.args.memory.now) (g.M.Memory.Q c.args.memory.now) in
-    let Ask : Res → Store → Type 0 = Goal G (store (g.M.Memory.table c.args.memory.now) c.args.fresh.now) c.args.root in
-    let T : Store = store (g.M.Memory.table c.turns.memory) c.turns.fresh in
-    let h = c.turns.height in
-    let fit : length c.turns.frames ≡ length c.args.frames.now = c.turns.auto.frames in
-    record { setting = G; of = refl; sane = c.requires.sane; small = omega arith; awaiting = (resumed_awaiting G Ask T c.turns.frames h c.turns.control fit c.turns.invariant.2.1 c.in-Return.reading c.in-Return.is (omega arith)) }
-
-pub turns-smaller-in-Open-resume : goal.turns-smaller-in-Open-resume
-turns-smaller-in-Open-resume g c =
-    let G : Setting = setting (meaning c.args.grammar.now.words.now) g.T.Text.fits (g.T.Text.elements c.args.text.now) (length c.args.frames.now) g.M.Memory.keeps (g.M.Memory.P c.args.memory.now) (g.M.Memory.Q c.args.memory.now) in
-    let Ask : Res → Store → Type 0 = Goal G (store (g.M.Memory.table c.args.memory.now) c.args.fresh.now) c.args.root in
-    let T : Store = store (g.M.Memory.table c.turns.memory) c.turns.fresh in
-    let h = c.turns.height in
-    let fit : length c.turns.frames ≡ length c.args.frames.now = c.turns.auto.frames in
-    resumed_open_less G Ask T c.turns.frames h c.turns.control fit c.turns.invariant.2.1 (store (g.M.Memory.table c.resume.new.memory) c.resume.new.fresh) c.in-Return.reading c.in-Open-resume.next c.in-Open-resume.part c.in-Open-resume.place c.in-Open-resume.mode c.in-Return.is (omega arith) c.turns.invariant.0 (c.in-Open-resume.ensures.resumed G refl refl (sym c.turns.invariant.1) (sym c.turns.invariant.2.0) c.requires.sane (resumed_awaiting G Ask T c.turns.frames h c.turns.control fit c.turns.invariant.2.1 c.in-Return.reading c.in-Return.is (omega arith)))
-
-pub turns-preserved-in-Open-resume : goal.turns-preserved-in-Open-resume
-turns-preserved-in-Open-resume g c =
-    let G : Setting = setting (meaning c.args.grammar.now.words.now) g.T.Text.fits (g.T.Text.elements c.args.text.now) (length c.args.frames.now) g.M.Memory.keeps (g.M.Memory.P c.args.memory.now) (g.M.Memory.Q c.args.memory.now) in
-    let Ask : Res → Store → Type 0 = Goal G (store (g.M.Memory.table c.args.memory.now) c.args.fresh.now) c.args.root in
-    let T : Store = store (g.M.Memory.table c.turns.memory) c.turns.fresh in
-    let h = c.turns.height in
-    let fit : length c.turns.frames ≡ length c.args.frames.now = c.turns.auto.frames in
-    (c.turns.invariant.0, (c.in-Open-resume.ensures.places ∙ c.turns.invariant.1), ((c.in-Open-resume.ensures.rules ∙ c.turns.invariant.2.0), resumed_open G Ask T c.turns.frames h c.turns.control fit c.turns.invariant.2.1 (store (g.M.Memory.table c.resume.new.memory) c.resume.new.fresh) c.in-Return.reading c.in-Open-resume.next c.in-Open-resume.part c.in-Open-resume.place c.in-Open-resume.mode c.in-Return.is (omega arith) c.turns.invariant.0 (c.in-Open-resume.ensures.resumed G refl refl (sym c.turns.invariant.1) (sym c.turns.invariant.2.0) c.requires.sane (resumed_awaiting G Ask T c.turns.frames h c.turns.control fit c.turns.invariant.2.1 c.in-Return.reading c.in-Return.is (omega arith)))))
+pub turns-preserved-in-Evaluate : goal.turns-preserved-in-Evaluate
+turns-preserved-in-Evaluate g c = record {
+  places = c.turns.invariant.places;
+  rules = c.turns.invariant.rules;
+  turn = entered_goes c.turns.invariant.turn c.in-Evaluate.is c.in_ok-step-in-Evaluate.step (entered_in (meaning c.args.scene.now.grammar.now.words.now) g.T.Text.fits (g.T.Text.elements c.args.scene.now.text.now) c.args.scene.now.frames g.M.Memory.keeps c.turns.invariant.places c.turns.invariant.rules (store (g.M.Memory.table c.turns.memory) c.turns.fresh) c.turns.height c.in-Evaluate.ask (Ok c.in_ok-step-in-Evaluate.step) (c.in_ok-step-in-Evaluate.ensures c.turns.fresh)) c.taken.ensures.next c.taken.ensures.held;
+}
 
 pub turns-smaller : goal.turns-smaller
 turns-smaller g c =
-    let G : Setting = setting (meaning c.args.grammar.now.words.now) g.T.Text.fits (g.T.Text.elements c.args.text.now) (length c.args.frames.now) g.M.Memory.keeps (g.M.Memory.P c.args.memory.now) (g.M.Memory.Q c.args.memory.now) in
-    let Ask : Res → Store → Type 0 = Goal G (store (g.M.Memory.table c.args.memory.now) c.args.fresh.now) c.args.root in
-    let T : Store = store (g.M.Memory.table c.turns.memory) c.turns.fresh in
-    let h = c.turns.height in
-    let fit : length c.turns.frames ≡ length c.args.frames.now = c.turns.auto.frames in
-    resumed_give_less G Ask T c.turns.frames h c.turns.control fit c.turns.invariant.2.1 c.in-Return.reading c.in-Return.is (omega arith)
+    let U = store (g.M.Memory.table c.resume-step.new.memory) c.resume-step.new.fresh in
+    let w = c.resume-step.ensures.resumed (setting (meaning c.args.scene.now.grammar.now.words.now) g.T.Text.fits (g.T.Text.elements c.args.scene.now.text.now) c.args.scene.now.frames g.M.Memory.keeps (g.M.Memory.P c.args.memory.now) (g.M.Memory.Q c.args.memory.now)) refl (refl, sym c.turns.invariant.places, sym c.turns.invariant.rules) (sane c.args.scene.now.grammar.now g.T.Text.fits (g.T.Text.elements c.args.scene.now.text.now) c.args.scene.now.size c.args.scene.now.frames g.M.Memory.keeps (g.M.Memory.P c.args.memory.now) (g.M.Memory.Q c.args.memory.now) c.args.scene.now.whole c.args.scene.now.small) (resumed_awaiting c.turns.invariant.turn c.in-Return.is (omega arith)) in
+    resumed_less c.turns.invariant.turn c.in-Return.is (omega arith) U c.resume-step.result w c.taken-in-Return.ensures.next c.taken-in-Return.ensures.held
 
 pub turns-preserved : goal.turns-preserved
 turns-preserved g c =
-    let G : Setting = setting (meaning c.args.grammar.now.words.now) g.T.Text.fits (g.T.Text.elements c.args.text.now) (length c.args.frames.now) g.M.Memory.keeps (g.M.Memory.P c.args.memory.now) (g.M.Memory.Q c.args.memory.now) in
-    let Ask : Res → Store → Type 0 = Goal G (store (g.M.Memory.table c.args.memory.now) c.args.fresh.now) c.args.root in
-    let T : Store = store (g.M.Memory.table c.turns.memory) c.turns.fresh in
-    let h = c.turns.height in
-    let fit : length c.turns.frames ≡ length c.args.frames.now = c.turns.auto.frames in
-    (omega (arith, c.turns.invariant.0), (c.in-Give-resume.ensures.places ∙ c.turns.invariant.1), ((c.in-Give-resume.ensures.rules ∙ c.turns.invariant.2.0), resumed_give G Ask T c.turns.frames h c.turns.control fit c.turns.invariant.2.1 (store (g.M.Memory.table c.resume.new.memory) c.resume.new.fresh) c.in-Return.reading c.in-Give-resume.whole c.in-Return.is (omega arith) (c.in-Give-resume.ensures.resumed G refl refl (sym c.turns.invariant.1) (sym c.turns.invariant.2.0) c.requires.sane (resumed_awaiting G Ask T c.turns.frames h c.turns.control fit c.turns.invariant.2.1 c.in-Return.reading c.in-Return.is (omega arith)))))
+    let U = store (g.M.Memory.table c.resume-step.new.memory) c.resume-step.new.fresh in
+    let w = c.resume-step.ensures.resumed (setting (meaning c.args.scene.now.grammar.now.words.now) g.T.Text.fits (g.T.Text.elements c.args.scene.now.text.now) c.args.scene.now.frames g.M.Memory.keeps (g.M.Memory.P c.args.memory.now) (g.M.Memory.Q c.args.memory.now)) refl (refl, sym c.turns.invariant.places, sym c.turns.invariant.rules) (sane c.args.scene.now.grammar.now g.T.Text.fits (g.T.Text.elements c.args.scene.now.text.now) c.args.scene.now.size c.args.scene.now.frames g.M.Memory.keeps (g.M.Memory.P c.args.memory.now) (g.M.Memory.Q c.args.memory.now) c.args.scene.now.whole c.args.scene.now.small) (resumed_awaiting c.turns.invariant.turn c.in-Return.is (omega arith)) in
+    record {
+      places = c.resume-step.ensures.places ∙ c.turns.invariant.places;
+      rules = c.resume-step.ensures.rules ∙ c.turns.invariant.rules;
+      turn = resumed_goes c.turns.invariant.turn c.in-Return.is (omega arith) U c.resume-step.result w c.taken-in-Return.ensures.next c.taken-in-Return.ensures.held;
+    }

@@ -1,0 +1,16 @@
+//! What an evaluation goes over, and does not change.
+ghost use Rattle.std.specs.Prelude.{◌≡◌, ◌≤◌, length};
+
+use grammar::accepted::Grammar;
+use text::Text;
+
+/// A grammar, a text with its size, and how many frames are lent.
+#[derive(Drop)]
+pub(crate) struct Scene<'a, T: Text> {
+    pub(crate) grammar: &'a Grammar<'a>,
+    pub(crate) text: &'a T,
+    pub(crate) size: usize,
+    pub(crate) frames: usize,
+    ghost whole: { size ≡ length (T.elements text.now) },
+    ghost small: { size ≤ 65535 },
+}
