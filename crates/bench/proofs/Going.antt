@@ -5,7 +5,7 @@ use Rattle.grammar.specs.Words.{meaning}
 use Rattle.grammar.specs.Questions.{Accepted}
 use Rattle.text.specs.Meaning.{accepted, replaced}
 use Rattle.text.specs.Refusals.{Iff}
-use Rattle.peg.specs.Results.{RulePlace}
+use Rattle.peg.specs.declared.results.RulePlace.{RulePlace}
 use Rattle.peg.specs.Counting.{learned}
 use Rattle.peg.specs.Settling.{Settles}
 use Rattle.peg.proofs.Settling.{settling}
@@ -62,11 +62,11 @@ module _ {E : Type 0} (fits : ℕ → ℕ → E → Bool) (keeps : Bool) {P P' Q
     knows_parsed xs T U frames q d first cs ks r = (some_learned xs T frames r d, each_learned xs T frames r d)
 
 -- where it is told which rule-places are known after a call, there is a run after it
-some_run : {E : Type 0} {fits : ℕ → ℕ → E → Bool} {b : Bounds} {ws : List ℕ} {first xs : List E} {cs : List (Change E)} {T : Table} {s : State} {After : List RulePlace → Type 0}
+pub some_run : {E : Type 0} {fits : ℕ → ℕ → E → Bool} {b : Bounds} {ws : List ℕ} {first xs : List E} {cs : List (Change E)} {T : Table} {s : State} {After : List RulePlace → Type 0}
     → RunsKnowing fits b ws first cs xs T s After → Runs fits b ws first cs xs T s
 some_run x = (x.0.0, x.1 x.0.0 x.0.1)
 
-goes : {E : Type 0} {fits : ℕ → ℕ → E → Bool} {b b' : Bounds} {ws : List ℕ} {xs ys : List E} {T U : Table} {s s' : State} {After : List RulePlace → List RulePlace → Type 0}
+pub goes : {E : Type 0} {fits : ℕ → ℕ → E → Bool} {b b' : Bounds} {ws : List ℕ} {xs ys : List E} {T U : Table} {s s' : State} {After : List RulePlace → List RulePlace → Type 0}
     → GoesOnKnowing fits b b' ws xs ys T U s s' After → GoesOn fits b b' ws xs ys T U s s'
 goes h first cs (ks, r) = some_run (h first cs ks r)
 

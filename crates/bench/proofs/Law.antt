@@ -7,7 +7,8 @@ use Rattle.grammar.specs.Questions.{Accepted}
 use Rattle.text.specs.Meaning.{accepted, replaced}
 use Rattle.text.proofs.Laws.{length_replaced}
 use Rattle.peg.specs.Members.{In}
-use Rattle.peg.specs.Results.{RulePlace, Given, told}
+use Rattle.peg.specs.declared.results.RulePlace.{RulePlace}
+use Rattle.peg.specs.Results.{Given, told}
 use Rattle.peg.specs.Rules.{Parses}
 use Rattle.peg.specs.Totality.{OneWithin, deepest}
 use Rattle.peg.specs.Counting.{fresh, most_places}

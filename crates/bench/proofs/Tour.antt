@@ -6,7 +6,7 @@ use Rattle.grammar.specs.Words.{meaning}
 use Rattle.text.specs.Meaning.{accepted, byte_in}
 use Rattle.peg.specs.declared.results.Outcome.TheVariants.{Match}
 use Rattle.peg.specs.Readings.{read_alone}
-use Rattle.peg.specs.Results.{RulePlace}
+use Rattle.peg.specs.declared.results.RulePlace.{RulePlace}
 use Rattle.peg.specs.Rules.{empty_matches, as_its_body}
 use Rattle.peg.specs.Halting.{too_deep}
 use Rattle.peg.specs.Settling.{Remains, kept, moves}

@@ -1,7 +1,7 @@
 -- The runs of the tour again, with what each of their calls did.
 use Rattle.std.specs.Prelude.{◌≡◌, ℕ, Bool, List, [], ◌∷◌}
 use Rattle.text.specs.Meaning.{byte_in}
-use Rattle.peg.specs.Results.{RulePlace}
+use Rattle.peg.specs.declared.results.RulePlace.{RulePlace}
 use Rattle.memo.specs.Tables.{Table}
 use Rattle.reading.specs.Runs.{Bounds}
 use Rattle.bench.specs.Runs.{State, settled, slip_out, Change, Run, opened, changed, change_refused, shifted, parsed, parse_uncovered, cleared}

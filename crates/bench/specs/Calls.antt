@@ -5,7 +5,7 @@ use Rattle.grammar.specs.declared.expr.Mode.TheVariants.{On}
 use Rattle.grammar.specs.Words.{meaning}
 use Rattle.text.specs.Meaning.{accepted}
 use Rattle.text.specs.Refusals.{edit_number, Iff}
-use Rattle.peg.specs.Results.{RulePlace}
+use Rattle.peg.specs.declared.results.RulePlace.{RulePlace}
 use Rattle.peg.specs.Counting.{fresh, learned, most_places}
 use Rattle.peg.specs.Settling.{Settles}
 use Rattle.memo.specs.Tables.{Table}

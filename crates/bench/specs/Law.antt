@@ -4,7 +4,7 @@ use Rattle.grammar.specs.declared.expr.Mode.TheVariants.{On}
 use Rattle.grammar.specs.Words.{meaning}
 use Rattle.grammar.specs.Questions.{Accepted}
 use Rattle.text.specs.Meaning.{accepted}
-use Rattle.peg.specs.Results.{RulePlace}
+use Rattle.peg.specs.declared.results.RulePlace.{RulePlace}
 use Rattle.peg.specs.Rules.{Parses}
 use Rattle.peg.specs.Totality.{deepest, OneWithin}
 use Rattle.peg.specs.Counting.{fresh, most_places}

@@ -3,7 +3,7 @@ use Rattle.std.specs.Prelude.{◌≡◌, ℕ, ◌+◌, ◌-◌, ◌≤◌, Bool,
 use Rattle.grammar.specs.declared.expr.Mode.TheVariants.{On}
 use Rattle.grammar.specs.Words.{meaning}
 use Rattle.text.specs.Meaning.{accepted, replaced}
-use Rattle.peg.specs.Results.{RulePlace}
+use Rattle.peg.specs.declared.results.RulePlace.{RulePlace}
 use Rattle.peg.specs.Counting.{learned}
 use Rattle.peg.specs.Settling.{Settles}
 use Rattle.memo.specs.Tables.{Table, Empty, Shifts}

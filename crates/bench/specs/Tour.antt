@@ -4,7 +4,7 @@ use Rattle.grammar.specs.declared.expr.Mode.TheVariants.{On, Off}
 use Rattle.text.specs.Meaning.{byte_in}
 use Rattle.peg.specs.declared.results.Outcome.TheVariants.{Match}
 use Rattle.peg.specs.Readings.{read_alone}
-use Rattle.peg.specs.Results.{RulePlace}
+use Rattle.peg.specs.declared.results.RulePlace.{RulePlace}
 use Rattle.memo.specs.Tables.{Table}
 use Rattle.reading.specs.Reads.{row_of}
 use Rattle.bench.specs.Runs.{settled, slip_out, Change, Run}

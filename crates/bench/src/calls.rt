@@ -1,4 +1,5 @@
 //! The five calls. Each is lent the whole bench: grammar, text and memory.
+// They are lent one by one, a form of the project: a call borrows mutably only what it changes, and its clauses name T's and M's members.
 ghost use Rattle.std.specs.Prelude.{◌≡◌, [], length, IfOk, MatchResult};
 ghost use Rattle.grammar.specs.Words.{meaning};
 ghost use Rattle.memo.specs.Tables.{Empty, Shifts};

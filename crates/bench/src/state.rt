@@ -5,14 +5,9 @@ ghost use Rattle.bench.specs.Slips.{Spent};
 pub(crate) const SPENT: usize = 65_536;
 
 /// A bench is settled: its memory has followed every change of its text.
+#[derive(Drop)]
 pub struct Settled {
     token: (),
-}
-
-impl Drop for Settled {
-    fn drop(self) {
-        let Settled { token: _ } = self;
-    }
 }
 
 impl Settled {
@@ -29,6 +24,7 @@ pub struct Slip {
     pub(crate) m: usize,
 }
 
+// by hand: its end asks that it is spent
 impl Drop for Slip {
     fn drop(self)
         requires { Spent self }

@@ -18,6 +18,7 @@ use reading::reply::Reply;
 use text::Text;
 
 /// `parse` over the whole memory.
+// What `read` and `parse` promise stands here again, since each call is read by itself.
 pub fn parse_whole<T: Text>(
     state: &Settled,
     grammar: &Grammar<'_>,

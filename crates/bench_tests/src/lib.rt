@@ -7,6 +7,7 @@ mod tests {
     use bench::state::Settled;
     use engine::frame::Frame;
     use grammar::accepted::{Grammar, check as accept};
+    use grammar::site::SITE;
     use memo::memory::Memory;
     use memo::ring::state::Ring;
     use memo::whole::WholeMemory;
@@ -17,41 +18,10 @@ mod tests {
     use std::test::Fail;
     use text::{ByteBuffer, EditRefusal, EditableText};
 
-    // Site files: rule 0 is lines and then the end, rule 1 a line, rule 2 a digit; label 1 is a missing semicolon.
-    static SITE: [u32; 23] = [
-        0x8044_0301,
-        0x9034_0000,
-        0x9024_0000,
-        0x9004_0000,
-        0xA040_0100,
-        0xB000_0001,
-        0x1130_4C00,
-        0x10C0_3901,
-        0x10EC_3B02,
-        0x1000_FF03,
-        0x2008_0000,
-        0x5010_0000,
-        0x7004_0000,
-        0x4008_0600,
-        0x3014_0700,
-        0x3000_0800,
-        0x2004_0000,
-        0x5028_0000,
-        0x600C_0000,
-        0x302C_0C00,
-        0x6000_0000,
-        0x3038_0300,
-        0x503C_0000,
-    ];
-
     // A match of all, where a line could still begin; with one recovery at `slip`, if any.
     fn matched(end: usize, slip: Option<usize>, fresh: u32) -> Reply {
         let recoveries = match slip {
-            None => Recoveries {
-                count: 0,
-                label: 0,
-                place: 0,
-            },
+            None => Recoveries::default(),
             Some(place) => Recoveries {
                 count: 1,
                 label: 1,
@@ -89,14 +59,8 @@ mod tests {
 
     // The keys of one story, and what is answered; a memory that forgets may count more rows, so `counted` tells whether counts are compared.
     fn story<M: Memory>(rt: &impl Abort, memory: &mut M, counted: bool) -> Result<(), Fail> {
-        let mut grammar = Grammar::smallest();
-        accept(&SITE, &mut [0; 34], &mut grammar)?;
-        let mut buffer = [0u8; 8];
-        buffer[0] = b'L';
-        buffer[1] = b'1';
-        buffer[2] = b'L';
-        buffer[3] = b'2';
-        buffer[4] = b';';
+        let grammar = accept(&SITE, &mut [0; 34])?;
+        let mut buffer = *b"L1L2;\0\0\0";
         let (mut text, made) = ByteBuffer::new(&mut buffer, 5);
         made?;
         let mut frames = [Frame::blank(); 16];
@@ -192,8 +156,7 @@ mod tests {
         let mut words = [0u32; 384];
         let (mut memory, made) = WholeMemory::new(&mut words, 8, 3);
         made?;
-        let mut grammar = Grammar::smallest();
-        accept(&SITE, &mut [0; 34], &mut grammar)?;
+        let grammar = accept(&SITE, &mut [0; 34])?;
         let mut buffer = [0u8; 8];
         let (text, made) = ByteBuffer::new(&mut buffer, 0);
         made?;

@@ -1,10 +1,5 @@
 use Rattle.bench.specs.Runs.{opened}
 use Rattle.bench.proofs.calls.open.Goals as goal
 
-pub returns : goal.returns
-returns g c = record {
-  empty = c.forget.ensures.empty;
-  places = c.forget.ensures.places;
-  rules = c.forget.ensures.rules;
-  run = opened c.capacity.ensures.within c.capacity.ensures.few c.forget.ensures.empty;
-}
+pub returns-clause-run : goal.returns-clause-run
+returns-clause-run g c = opened c.capacity.ensures.within c.capacity.ensures.few c.forget.ensures.empty

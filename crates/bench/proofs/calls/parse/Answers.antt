@@ -1,20 +1,13 @@
 use Rattle.std.proofs.Common.{refl}
-use Rattle.bench.proofs.Going.{goes_parsed, knows_parsed, obeys}
+use Rattle.engine.proofs.Settings.{accepted_of}
+use Rattle.bench.proofs.Going.{goes, knows_parsed, obeys}
 use Rattle.bench.proofs.calls.parse.Goals as goal
 
-pub returns : goal.returns
-returns g c =
-    let row = c.args.grammar.now in
-    let e = c.read.ensures in
-    record {
-      law = obeys g.T.Text.fits g.M.Memory.keeps _ _ _ row.words.now (row.counted, row.headed, row.formed, row.named, row.solid, row.ending) _ _ _ _ _ e.replies;
-      replies = e.replies;
-      promised = e.promised;
-      numbered = e.numbered;
-      run = goes_parsed g.T.Text.fits g.M.Memory.keeps e.places e.rules refl row.words.now (row.counted, row.headed, row.formed, row.named, row.solid, row.ending) _ _ _ _ _ e.replies;
-      known = knows_parsed g.T.Text.fits g.M.Memory.keeps e.places e.rules refl row.words.now (row.counted, row.headed, row.formed, row.named, row.solid, row.ending) _ _ _ _ _ e.replies;
-      unchanged = e.unchanged;
-      blank = e.blank;
-      places = e.places;
-      rules = e.rules;
-    }
+pub returns-clause-law : goal.returns-clause-law
+returns-clause-law g c = obeys g.T.Text.fits g.M.Memory.keeps _ _ _ _ (accepted_of c.args.grammar.now) _ _ _ _ _ c.read.ensures.replies
+
+pub returns-clause-known : goal.returns-clause-known
+returns-clause-known g c = knows_parsed g.T.Text.fits g.M.Memory.keeps c.read.ensures.places c.read.ensures.rules refl _ (accepted_of c.args.grammar.now) _ _ _ _ _ c.read.ensures.replies
+
+pub returns-clause-run : goal.returns-clause-run
+returns-clause-run g c = goes (returns-clause-known g c)
