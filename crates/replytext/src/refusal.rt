@@ -1,5 +1,5 @@
 //! Refusals as text: those of texts, of the whole memory and of parses.
-ghost use Rattle.std.specs.Prelude.{◌≡◌, Some, Err};
+ghost use Rattle.std.specs.Prelude.{◌≡◌, ℕ, Some, Err};
 ghost use Rattle.text.specs.Refusals.{edit_number, make_number};
 ghost use Rattle.memo.specs.Making.{number as memory_number};
 ghost use Rattle.reading.specs.Replies.{number};
@@ -11,45 +11,37 @@ use reading::refusal::Refusal;
 use std::fmt;
 use text::{EditRefusal, MakeRefusal};
 
-/// The number of a refused change.
-fn edit_number_of(refusal: EditRefusal) -> u8
-    ensures { result ≡ edit_number (Err refusal) }
-{
-    match refusal {
-        EditRefusal::Range => 11,
-        EditRefusal::Room => 12,
-    }
+/// A refusal that converts to its number.
+pub trait Numbered: Into<u8> + Copy {
+    /// The number.
+    ghost numbered: { Self → ℕ };
+
+    /// What the conversion gives.
+    ghost gives: { (r : Self) (n : ℕ) → Self.converts r n → n ≡ numbered r };
 }
 
-/// The number of a refused text.
-fn make_number_of(refusal: MakeRefusal) -> u8
-    ensures { result ≡ make_number (Err refusal) }
-{
-    match refusal {
-        MakeRefusal::Buffer => 13,
-        MakeRefusal::Count => 14,
-    }
+impl Numbered for EditRefusal {
+    ghost numbered = { λ r. edit_number (Err r) };
+
+    ghost gives = { λ r n is. is };
 }
 
-/// The number of a refused memory.
-fn memory_number_of(refusal: MemoryRefusal) -> u8
-    ensures { result ≡ memory_number refusal }
-{
-    match refusal {
-        MemoryRefusal::Size => 15,
-        MemoryRefusal::Words => 16,
-    }
+impl Numbered for MakeRefusal {
+    ghost numbered = { λ r. make_number (Err r) };
+
+    ghost gives = { λ r n is. is };
 }
 
-/// The number of a refused parse.
-fn number_of(refusal: Refusal) -> u8
-    ensures { result ≡ number refusal }
-{
-    match refusal {
-        Refusal::Uncovered => 8,
-        Refusal::Unfit => 9,
-        Refusal::TooDeep => 10,
-    }
+impl Numbered for MemoryRefusal {
+    ghost numbered = { memory_number };
+
+    ghost gives = { λ r n is. is };
+}
+
+impl Numbered for Refusal {
+    ghost numbered = { number };
+
+    ghost gives = { λ r n is. is };
 }
 
 /// A refusal by its number.
@@ -65,34 +57,10 @@ impl fmt::Display for Refused {
     }
 }
 
-impl fmt::Display for Shown<EditRefusal> {
-    ghost output = { λ r. Some (refused_text (edit_number (Err r.0))) };
+impl<R: Numbered> fmt::Display for Shown<R> {
+    ghost output = { λ r. Some (refused_text (R.numbered r.0)) };
 
     fn fmt<W: fmt::Write>(&self, f: &mut fmt::Formatter<W>) -> fmt::Result {
-        Refused(edit_number_of(self.0)).fmt(f)
-    }
-}
-
-impl fmt::Display for Shown<MakeRefusal> {
-    ghost output = { λ r. Some (refused_text (make_number (Err r.0))) };
-
-    fn fmt<W: fmt::Write>(&self, f: &mut fmt::Formatter<W>) -> fmt::Result {
-        Refused(make_number_of(self.0)).fmt(f)
-    }
-}
-
-impl fmt::Display for Shown<MemoryRefusal> {
-    ghost output = { λ r. Some (refused_text (memory_number r.0)) };
-
-    fn fmt<W: fmt::Write>(&self, f: &mut fmt::Formatter<W>) -> fmt::Result {
-        Refused(memory_number_of(self.0)).fmt(f)
-    }
-}
-
-impl fmt::Display for Shown<Refusal> {
-    ghost output = { λ r. Some (refused_text (number r.0)) };
-
-    fn fmt<W: fmt::Write>(&self, f: &mut fmt::Formatter<W>) -> fmt::Result {
-        Refused(number_of(self.0)).fmt(f)
+        Refused(self.0.into()).fmt(f)
     }
 }

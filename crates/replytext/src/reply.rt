@@ -1,10 +1,11 @@
 //! A reply as text: what was read, and how many rows it took.
 ghost use Rattle.std.specs.Prelude.{Some};
-ghost use Rattle.replytext.specs.Replies.{outcome_text, note_text, recoveries_text, answer_text, reply_text};
+ghost use Rattle.replytext.specs.Replies.{outcome_text, note_text, recoveries_text, answer_text, result_text, reply_text};
 
 use crate::Shown;
 use crate::marks::Marks;
 use peg::results::{Note, Outcome, Recoveries};
+use reading::refusal::Refusal;
 use reading::reply::{Answer, Reply};
 use std::fmt;
 
@@ -62,20 +63,23 @@ impl fmt::Display for Shown<Answer> {
     }
 }
 
+impl fmt::Display for Shown<Result<Answer, Refusal>> {
+    ghost output = { λ r. Some (result_text r.0) };
+
+    fn fmt<W: fmt::Write>(&self, f: &mut fmt::Formatter<W>) -> fmt::Result {
+        let Shown(result) = *self;
+        match result {
+            Ok(answer) => Shown(answer).fmt(f),
+            Err(refusal) => Shown(refusal).fmt(f),
+        }
+    }
+}
+
 impl fmt::Display for Shown<Reply> {
     ghost output = { λ q. Some (reply_text q.0) };
 
     fn fmt<W: fmt::Write>(&self, f: &mut fmt::Formatter<W>) -> fmt::Result {
         let Shown(Reply { result, fresh }) = *self;
-        match result {
-            Ok(answer) => {
-                let answer = Shown(answer);
-                write!(f, "{answer} fresh {fresh}")
-            }
-            Err(refusal) => {
-                let refusal = Shown(refusal);
-                write!(f, "{refusal} fresh {fresh}")
-            }
-        }
+        write!(f, "{} fresh {fresh}", Shown(result))
     }
 }
