@@ -1,6 +1,7 @@
 //! A case: the words of a grammar, the elements of a text, and a number of frames, as a line has them.
-use anyhow::anyhow;
+use anyhow::Context;
 use std::alloc::Global;
+use std::num::ParseIntError;
 
 /// The elements of a text.
 #[derive(Drop)]
@@ -17,22 +18,27 @@ pub struct Case {
     pub frames: usize,
 }
 
+/// Numbers, as a text has them between spaces.
+fn numbers_of<T: Drop, F: Fn(&str) -> Result<T, ParseIntError>>(
+    heap: Global,
+    text: &str,
+    number: F,
+) -> anyhow::Result<Vec<T>>
+    requires { F.IsAlwaysCallable number }
+{
+    text.split_whitespace()
+        .map(|piece| -> anyhow::Result<T> { Ok(number(piece)?) })
+        .try_collect(heap)
+}
+
 /// Words in hexadecimal.
 fn words_of(heap: Global, text: &str) -> anyhow::Result<Vec<u32>> {
-    let mut words = Vec::new(heap);
-    for word in text.split_whitespace() {
-        words.push(u32::from_str_radix(word, 16)?)?;
-    }
-    Ok(words)
+    numbers_of(heap, text, |word| u32::from_str_radix(word, 16))
 }
 
 /// Bytes in hexadecimal.
 fn bytes_of(heap: Global, text: &str) -> anyhow::Result<Vec<u8>> {
-    let mut bytes = Vec::new(heap);
-    for byte in text.split_whitespace() {
-        bytes.push(u8::from_str_radix(byte, 16)?)?;
-    }
-    Ok(bytes)
+    numbers_of(heap, text, |byte| u8::from_str_radix(byte, 16))
 }
 
 /// The words of a log, or bytes.
@@ -45,12 +51,8 @@ fn elements_of(heap: Global, text: &str) -> anyhow::Result<Elements> {
 
 /// The case of a line `WORD.. | TEXT | FRAMES`.
 pub fn case_of(heap: Global, line: &str) -> anyhow::Result<Case> {
-    let Some((words, rest)) = line.split_once('|') else {
-        return Err(anyhow!("no text"));
-    };
-    let Some((text, frames)) = rest.split_once('|') else {
-        return Err(anyhow!("no frames"));
-    };
+    let (words, rest) = line.split_once('|').context("no text")?;
+    let (text, frames) = rest.split_once('|').context("no frames")?;
     Ok(Case {
         words: words_of(heap, words)?,
         elements: elements_of(heap, text)?,

@@ -1,7 +1,7 @@
 //! A case tried: the check of its grammar, and a reading over each of the two memories, emptied.
 use crate::case::{Case, Elements, case_of};
-use crate::shown::Line;
-use anyhow::anyhow;
+use crate::shown::{Line, Read};
+use anyhow::Context;
 use engine::frame::Frame;
 use engine::read::read;
 use grammar::accepted::{Grammar, check};
@@ -20,14 +20,13 @@ fn over_whole<T: Text>(
     frames: &mut [Frame],
 ) -> anyhow::Result<Reply> {
     let places = text.capacity() + 1;
-    let Some(count) = grammar.rules().checked_mul(16 * places) else {
-        return Err(anyhow!("too many words"));
-    };
+    let count = grammar
+        .rules()
+        .checked_mul(16 * places)
+        .context("too many words")?;
     let mut words = vec![in heap; 0u32; count]?;
     let (mut memory, made) = WholeMemory::new(&mut words, places, grammar.rules());
-    if made.is_err() {
-        return Err(anyhow!("no memory of this size"));
-    }
+    made.ok().context("no memory of this size")?;
     Ok(read(grammar, text, &mut memory, frames))
 }
 
@@ -43,40 +42,33 @@ fn over_both<T: Text>(
     grammar: &Grammar<'_>,
     text: &T,
     count: usize,
-) -> anyhow::Result<Line> {
+) -> anyhow::Result<Read> {
     let mut frames = vec![in heap; Frame::blank(); count]?;
     let whole = over_whole(heap, grammar, text, &mut frames)?;
     let ring = over_ring(grammar, text, &mut frames);
-    Ok(Line::Read { whole, ring })
+    Ok(Read { whole, ring })
 }
 
-/// A reading of bytes.
-fn read_bytes(
+/// What is read of the elements.
+fn read_elements(
     heap: Global,
     grammar: &Grammar<'_>,
-    bytes: &[u8],
+    elements: Elements,
     frames: usize,
-) -> anyhow::Result<Line> {
-    let (text, made) = FixedBytes::new(bytes, bytes.len());
-    if made.is_err() {
-        return Err(anyhow!("no text of this size"));
+) -> anyhow::Result<Read> {
+    match elements {
+        Elements::Bytes(bytes) => {
+            let (text, made) = FixedBytes::new(&bytes, bytes.len());
+            made.ok().context("no text of this size")?;
+            over_both(heap, grammar, &text, frames)
+        }
+        Elements::Log(mut log) => {
+            let count = log.len();
+            let (text, made) = EventLog::new(&mut log, count);
+            made.ok().context("no log of this size")?;
+            over_both(heap, grammar, &text, frames)
+        }
     }
-    over_both(heap, grammar, &text, frames)
-}
-
-/// A reading of a log.
-fn read_log(
-    heap: Global,
-    grammar: &Grammar<'_>,
-    log: &mut [u32],
-    frames: usize,
-) -> anyhow::Result<Line> {
-    let count = log.len();
-    let (text, made) = EventLog::new(log, count);
-    if made.is_err() {
-        return Err(anyhow!("no log of this size"));
-    }
-    over_both(heap, grammar, &text, frames)
 }
 
 /// What a line's case gives.
@@ -87,12 +79,9 @@ pub fn answer(heap: Global, line: &str) -> anyhow::Result<Line> {
         frames,
     } = case_of(heap, line)?;
     let mut work = vec![in heap; 0u32; 2000]?;
-    let mut grammar = Grammar::smallest();
-    if let Err(fault) = check(&words, &mut work, &mut grammar) {
-        return Ok(Line::Refused(fault.place()));
-    }
-    match elements {
-        Elements::Bytes(bytes) => read_bytes(heap, &grammar, &bytes, frames),
-        Elements::Log(mut log) => read_log(heap, &grammar, &mut log, frames),
-    }
+    let read = match check(&words, &mut work) {
+        Ok(grammar) => Ok(read_elements(heap, &grammar, elements, frames)?),
+        Err(fault) => Err(fault.place()),
+    };
+    Ok(Line(read))
 }
