@@ -1,7 +1,5 @@
--- A filled buffer, and the reply on a bench just opened.
-use Rattle.std.proofs.Common.{◌≡◌, ℕ, ◌*◌, ◌<◌, ◌≤◌, min, true, List, [], ◌∷◌, ◌++◌, length, take, drop, is_ok, Ok, Err, Result, sym, refl, ap, ◌∙◌, subst, arith, lit<, lit≤, MatchResult}
-use native.Mathlib.Decide.{dec_le}
-use Rattle.std.proofs.lemmas.List.{length-append, length-take, length-drop, take_all, take_at}
+-- The text of a filled buffer, and the reply on a bench just opened.
+use Rattle.std.proofs.Common.{◌≡◌, ℕ, ◌*◌, ◌<◌, ◌≤◌, true, List, [], ◌∷◌, ◌++◌, length, take, Ok, Err, Result, sym, refl, ap, ◌∙◌, subst, arith, lit<, lit≤, MatchResult}
 use Rattle.memo.specs.declared.whole.WholeMemory.{WholeMemory}
 use Rattle.memo.specs.declared.whole.Refusal.{Refusal}
 use Rattle.memo.specs.Making.{Asked, Hands, Makes}
@@ -23,23 +21,6 @@ use Rattle.bench.specs.Calls.{bounds, Obeys}
 use Rattle.replytext.specs.Replies.{refused_text, reply_text}
 use Rattle.sitefile.specs.Lines.{most_bytes, frames, site_bounds, SoleReply, newline, SiteLine, too_long, Shows}
 use Rattle.sitefile.specs.Lines.{replied as replied_line}
-
--- the first n bytes stand before what the buffer held
-module _ (n m : ℕ) (bytes buffer xs : List ℕ) (least : n ≡ min (length bytes) (length buffer)) (same : m ≡ n) (copied : xs ≡ take m bytes) where
-  copies : length xs ≡ n
-  copies = ap length copied ∙ length-take m bytes ∙ omega (arith, least, same)
-
-  pub filled_length : length (xs ++ drop n buffer) ≡ length buffer
-  filled_length = length-append xs (drop n buffer) ∙ omega (arith, copies, length-drop n buffer, least)
-
-  pub filled_taken : length bytes ≤ length buffer → take (length bytes) (xs ++ drop n buffer) ≡ bytes
-  filled_taken fits =
-      take_at xs (drop n buffer) (length bytes) (omega (arith, copies, least, fits)) ∙ copied ∙ take_all m bytes (omega (arith, least, same, fits))
-
--- what is said of an answer that is yes
-pub when_ok : {T E : Type 0} (r : Result T E) (A B : Type 0) → is_ok r ≡ true → MatchResult r (λ _. A) (λ _. B) → A
-when_ok (Ok x) A B ok h = h
-when_ok (Err e) A B ok h = let z : ◌≡◌ {A = ℕ} 0 1 = cc in let b : ⊥ = omega arith in absurd b
 
 -- a memory with sizes and words enough is made
 pub when_made : (P Q : ℕ) (ws : List ℕ) (s : WholeMemory) (r : Result (Unit {0}) Refusal) → Asked P Q (length ws) r → Hands r P Q ws s
@@ -87,22 +68,15 @@ module _ (input buffer : List ℕ) (text : Buffer ℕ) where
       → length buffer ≡ most_bytes → (length input ≤ most_bytes → take (length input) buffer ≡ input)
       → (length input ≤ most_bytes) × (buffer_text text ≡ input) × (buffer_room text ≡ most_bytes)
   text_made (Ok x) y e count made room filled =
-      let fits = few (dec_le (length input) most_bytes) count.1 in
+      let fits : length input ≤ most_bytes = grind (arith, count.1, room) in
       (fits, made.0 ∙ filled fits, made.1 ∙ room)
-    where
-      few : Dec (length input ≤ most_bytes) → ((length buffer ≤ 65535) × (length buffer < length input) → ◌≡◌ {A = ℕ} 0 14) → length input ≤ most_bytes
-      few (yes h) f = h
-      few (no h) f = let z = f (omega (arith, room), omega (arith, room, h)) in let b : ⊥ = omega (arith, z) in absurd b
-  text_made (Err e) y i count made room filled = let z : ◌≡◌ {A = ℕ} 0 1 = cc in let b : ⊥ = omega arith in absurd b
+  text_made (Err e) y i count made room filled = absurd (cc)
 
 -- a buffer of 200 bytes refuses only more than these
 pub too_many : (n : ℕ) (r : Result (Unit {0}) MakeRefusal) (x : MakeRefusal) → r ≡ Err x → BufferExactly r most_bytes → CountExactly r most_bytes n → (make_number (Err x) ≡ 14) × (most_bytes < n)
-too_many n (Ok u) x e buffer count = let z : ◌≡◌ {A = ℕ} 0 1 = cc in let b : ⊥ = omega arith in absurd b
-too_many n (Err Full) x e buffer count = let b : ⊥ = omega (arith, buffer.0 refl) in absurd b
-too_many n (Err Count) x e buffer count = (ap (λ y. make_number (Err y)) (sym (same e)), (count.0 refl).1)
-  where
-    same : {y z : MakeRefusal} → ◌≡◌ {A = Result (Unit {0}) MakeRefusal} (Err y) (Err z) → y ≡ z
-    same h = cc
+too_many n (Ok u) x e buffer count = absurd (cc)
+too_many n (Err Full) x e buffer count = absurd (omega (arith, buffer.0 refl))
+too_many n (Err Count) x e buffer count = let same : x ≡ Count = cc in (ap (λ y. make_number (Err y)) same, (count.0 refl).1)
 
 module _ (input line : List ℕ) where
   pub shows_reply : (q : Reply) → length input ≤ most_bytes → SoleReply input q → line ≡ reply_text q ++ (newline ∷ []) → Shows input line
