@@ -1,5 +1,5 @@
 //! What a line asks for.
-use crate::fields::{next_field, only_number};
+use crate::fields::{next_field, no_field, only_number};
 use crate::parts::{Laid, lay};
 use crate::said::Wrong;
 use std::alloc::Global;
@@ -18,39 +18,31 @@ pub enum Call<'a> {
 /// What a line asks for.
 #[derive(Drop)]
 pub enum Command<'a> {
-    /// A blank line or a remark.
-    Nothing,
     /// A part of a bench.
     Part(Laid),
     Call(Call<'a>),
-    Wrong(Wrong),
 }
 
-/// The call that a command names.
-fn call_of<'a>(command: &[u8], fields: &'a [u8]) -> Option<Call<'a>> {
-    let alone = next_field(fields).is_none();
-    match command {
-        b"open" if alone => Some(Call::Open),
-        b"clear" if alone => Some(Call::Clear),
-        b"change" => Some(Call::Change(fields)),
-        b"parse" => Some(Call::Parse(only_number(fields)?)),
-        _ => None,
-    }
+/// A call that takes no fields.
+fn alone<'a>(call: Call<'a>, fields: &[u8]) -> Result<Command<'a>, Wrong> {
+    no_field(fields)?;
+    Ok(Command::Call(call))
 }
 
-/// What the line asks for.
-pub fn read_command(heap: Global, line: &[u8]) -> Command<'_> {
+/// What the line asks for; nothing, if it is blank or a remark.
+pub fn read_command(heap: Global, line: &[u8]) -> Result<Option<Command<'_>>, Wrong> {
     if line.starts_with(b"#") {
-        return Command::Nothing;
+        return Ok(None);
     }
     let Some((command, fields)) = next_field(line) else {
-        return Command::Nothing;
+        return Ok(None);
     };
-    if let Some(call) = call_of(command, fields) {
-        return Command::Call(call);
-    }
-    match lay(heap, command, fields) {
-        Ok(laid) => Command::Part(laid),
-        Err(wrong) => Command::Wrong(wrong),
-    }
+    let asked = match command {
+        b"open" => alone(Call::Open, fields)?,
+        b"clear" => alone(Call::Clear, fields)?,
+        b"change" => Command::Call(Call::Change(fields)),
+        b"parse" => Command::Call(Call::Parse(only_number(fields)?)),
+        _ => Command::Part(lay(heap, command, fields)?),
+    };
+    Ok(Some(asked))
 }

@@ -1,59 +1,57 @@
 //! The fields of a line: apart by spaces.
-use rowtext::hex::read_word;
+ghost use Rattle.std.specs.Prelude.{◌≡◌, ◌↔◌, All, IsNone, IsOk};
+
+use crate::said::Wrong;
 use rowtext::pieces::next_piece;
-use std::alloc::{AllocError, Global};
+use std::alloc::Global;
+use std::str::from_utf8;
 
 /// The first field and what follows it; none, where there are only spaces.
-pub fn next_field(text: &[u8]) -> Option<(&[u8], &[u8])> {
-    let mut rest = text;
-    while let Some((piece, after)) = next_piece(rest, b' ') {
-        if !piece.is_empty() {
-            return Some((piece, after));
-        }
-        rest = after;
+pub fn next_field(text: &[u8]) -> Option<(&[u8], &[u8])>
+    ensures { IsNone result ↔ All (λ byte. byte ≡ 32) text.now }
+{
+    let start = text.iter().position(|byte| *byte != b' ')?;
+    next_piece(&text[start..], b' ')
+}
+
+/// Nothing but spaces.
+pub fn no_field(text: &[u8]) -> Result<(), Wrong>
+    ensures { IsOk result ↔ All (λ byte. byte ≡ 32) text.now }
+{
+    match next_field(text) {
+        None => Ok(()),
+        Some(_) => Err(Wrong::NotUnderstood),
     }
-    None
 }
 
 /// The number that digits write, if a word of the machine holds it.
 fn number_of(text: &[u8]) -> Option<usize> {
-    let mut number = 0usize;
-    for byte in text {
-        let digit = char::from(*byte).to_digit(10)?;
-        number = number.checked_mul(10)?.checked_add(digit as usize)?;
+    // the library also reads a sign
+    if text.starts_with(b"+") {
+        return None;
     }
-    Some(number)
+    from_utf8(text).ok()?.parse().ok()
 }
 
 /// A number, and what follows it.
-pub fn next_number(text: &[u8]) -> Option<(usize, &[u8])> {
-    let (field, rest) = next_field(text)?;
-    Some((number_of(field)?, rest))
+pub fn next_number(text: &[u8]) -> Result<(usize, &[u8]), Wrong> {
+    let (field, rest) = next_field(text).ok_or(Wrong::NotUnderstood)?;
+    let number = number_of(field).ok_or(Wrong::NotUnderstood)?;
+    Ok((number, rest))
 }
 
 /// One number, and nothing else.
-pub fn only_number(text: &[u8]) -> Option<usize> {
+pub fn only_number(text: &[u8]) -> Result<usize, Wrong> {
     let (number, rest) = next_number(text)?;
-    if next_field(rest).is_some() {
-        return None;
-    }
-    Some(number)
+    no_field(rest)?;
+    Ok(number)
 }
 
 /// Bytes, two hexadecimal digits each, in one field or none.
-pub fn read_bytes(heap: Global, text: &[u8]) -> Result<Option<Vec<u8>>, AllocError> {
-    let mut bytes = Vec::new(heap);
+pub fn read_bytes(heap: Global, text: &[u8]) -> Result<Vec<u8>, Wrong> {
     let Some((field, rest)) = next_field(text) else {
-        return Ok(Some(bytes));
+        return Ok(Vec::new(heap));
     };
-    if next_field(rest).is_some() || field.len() % 2 != 0 {
-        return Ok(None);
-    }
-    for i in 0..field.len() / 2 {
-        let Some(byte) = read_word(&field[2 * i..2 * i + 2]) else {
-            return Ok(None);
-        };
-        bytes.push(byte as u8)?;
-    }
-    Ok(Some(bytes))
+    no_field(rest)?;
+    Ok(hex::decode(heap, field)?)
 }

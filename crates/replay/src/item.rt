@@ -1,25 +1,21 @@
 //! Elements as a line writes them.
 use crate::fields::read_bytes;
 use crate::parts::{Stored, StoredText};
+use crate::said::Wrong;
 use rowtext::row::read_row;
-use std::alloc::{AllocError, Global};
+use std::alloc::Global;
 
-/// What an element of a text is written as.
-pub trait Item: Copy + Clone {
-    /// What stands in a buffer's unused places.
-    const UNUSED: Self;
-
-    /// The elements that fields write; none, where they write none.
-    fn read_items(heap: Global, text: &[u8]) -> Result<Option<Vec<Self>>, AllocError>;
+/// What an element of a text is written as; its default stands in a buffer's unused places.
+pub trait Item: Copy + Default {
+    /// The elements that fields write.
+    fn read_items(heap: Global, text: &[u8]) -> Result<Vec<Self>, Wrong>;
 
     /// A text of these elements.
     fn text_of(stored: Stored<Self>) -> StoredText;
 }
 
 impl Item for u8 {
-    const UNUSED: u8 = 0;
-
-    fn read_items(heap: Global, text: &[u8]) -> Result<Option<Vec<u8>>, AllocError> {
+    fn read_items(heap: Global, text: &[u8]) -> Result<Vec<u8>, Wrong> {
         read_bytes(heap, text)
     }
 
@@ -29,10 +25,8 @@ impl Item for u8 {
 }
 
 impl Item for u32 {
-    const UNUSED: u32 = 0;
-
-    fn read_items(heap: Global, text: &[u8]) -> Result<Option<Vec<u32>>, AllocError> {
-        read_row(heap, text)
+    fn read_items(heap: Global, text: &[u8]) -> Result<Vec<u32>, Wrong> {
+        read_row(heap, text)?.ok_or(Wrong::NotUnderstood)
     }
 
     fn text_of(stored: Stored<u32>) -> StoredText {

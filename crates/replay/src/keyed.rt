@@ -19,7 +19,7 @@ pub trait Keyed: Text {
         grammar: &Grammar<'_>,
         memory: &mut M,
         fields: &[u8],
-    ) -> (Settled, Said);
+    ) -> (Settled, Result<Said, Wrong>);
 }
 
 /// A place, a count and elements.
@@ -31,16 +31,10 @@ struct Key<E> {
 }
 
 fn read_key<E: Item>(heap: Global, fields: &[u8]) -> Result<Key<E>, Wrong> {
-    let Some((p, rest)) = next_number(fields) else {
-        return Err(Wrong::NotUnderstood);
-    };
-    let Some((k, rest)) = next_number(rest) else {
-        return Err(Wrong::NotUnderstood);
-    };
-    match E::read_items(heap, rest)? {
-        Some(items) => Ok(Key { p, k, items }),
-        None => Err(Wrong::NotUnderstood),
-    }
+    let (p, rest) = next_number(fields)?;
+    let (k, rest) = next_number(rest)?;
+    let items = E::read_items(heap, rest)?;
+    Ok(Key { p, k, items })
 }
 
 impl<E: Symbol + Item> Keyed for Buffer<'_, E> {
@@ -51,25 +45,17 @@ impl<E: Symbol + Item> Keyed for Buffer<'_, E> {
         grammar: &Grammar<'_>,
         memory: &mut M,
         fields: &[u8],
-    ) -> (Settled, Said) {
-        let key = match read_key::<E>(heap, fields) {
+    ) -> (Settled, Result<Said, Wrong>) {
+        let Key { p, k, items } = match read_key::<E>(heap, fields) {
             Ok(key) => key,
-            Err(wrong) => return (state, Said::Wrong(wrong)),
+            Err(wrong) => return (state, Err(wrong)),
         };
-        match change(
-            state,
-            grammar,
-            self,
-            memory,
-            key.p,
-            key.k,
-            key.items.as_slice(),
-        ) {
+        match change(state, grammar, self, memory, p, k, items.as_slice()) {
             Ok(slip) => {
                 let state = settle(slip, grammar, self, memory);
-                (state, Said::Changed(self.size()))
+                (state, Ok(Said::Changed(self.size())))
             }
-            Err((state, refusal)) => (state, Said::NotChanged(refusal)),
+            Err((state, refusal)) => (state, Err(refusal.into())),
         }
     }
 }
@@ -82,7 +68,7 @@ impl Keyed for FixedBytes<'_> {
         _grammar: &Grammar<'_>,
         _memory: &mut M,
         _fields: &[u8],
-    ) -> (Settled, Said) {
-        (state, Said::Wrong(Wrong::ReadOnly))
+    ) -> (Settled, Result<Said, Wrong>) {
+        (state, Err(Wrong::ReadOnly))
     }
 }

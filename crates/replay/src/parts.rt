@@ -1,16 +1,18 @@
 //! The parts of a bench, as a session keeps them: a grammar's words, a memory's words, a text's elements.
-use crate::fields::{next_field, next_number, only_number};
+ghost use Rattle.std.specs.Prelude.{◌↔◌, IsOk, IsSome};
+
+use crate::fields::{next_field, next_number, no_field, only_number};
 use crate::item::Item;
 use crate::said::{Said, Wrong};
 use memo::memory::Memory;
 use memo::ring::state::Ring;
 use memo::whole::{Refusal, WholeMemory};
 use rowtext::row::read_row;
-use rowtext::verdict::{Verdict, judge};
+use rowtext::verdict::judge;
 use std::alloc::Global;
 use text::{Buffer, FixedBytes, MAX_ELEMENTS};
 
-/// A text that can be changed: its places, and how many of them it uses.
+/// A text that can be changed: its places, and how many of them it uses. A bench is lent them all, those in use and the others.
 #[derive(Drop)]
 pub struct Stored<E> {
     pub places: Vec<E>,
@@ -26,6 +28,7 @@ pub enum StoredText {
 }
 
 /// A memory; the ring is made when a bench is opened.
+// P and Q stand beside the words: these say nothing of them.
 #[derive(Drop)]
 pub enum StoredMemory {
     Whole {
@@ -71,128 +74,107 @@ impl Parts {
         }
     }
 
-    /// What is missing for a bench, if anything.
-    pub fn missing(&self) -> Option<Wrong> {
-        if self.grammar.is_none() {
-            Some(Wrong::NoGrammar)
-        } else if self.memory.is_none() {
-            Some(Wrong::NoMemory)
-        } else if self.text.is_none() {
-            Some(Wrong::NoText)
-        } else {
-            None
-        }
+    /// All parts for a bench, or the first that is missing.
+    pub fn whole(&mut self) -> Result<Whole<'_>, Wrong>
+        ensures { IsOk result ↔ (IsSome self.old.grammar × IsSome self.old.memory × IsSome self.old.text) }
+    {
+        Ok(Whole {
+            grammar: self.grammar.as_ref().ok_or(Wrong::NoGrammar)?.as_slice(),
+            memory: self.memory.as_mut().ok_or(Wrong::NoMemory)?,
+            text: self.text.as_mut().ok_or(Wrong::NoText)?,
+        })
     }
 }
 
-/// An answer, and the part if it was accepted.
+/// All parts for a bench.
+#[derive(Drop)]
+pub struct Whole<'a> {
+    pub grammar: &'a [u32],
+    pub memory: &'a mut StoredMemory,
+    pub text: &'a mut StoredText,
+}
+
+/// A part that was accepted, and what is said of it.
 #[derive(Drop)]
 pub struct Laid {
     pub said: Said,
-    pub part: Option<Part>,
-}
-
-fn refused(said: Said) -> Laid {
-    Laid { said, part: None }
-}
-
-fn accepted(said: Said, part: Part) -> Laid {
-    Laid {
-        said,
-        part: Some(part),
-    }
+    pub part: Part,
 }
 
 fn lay_grammar(heap: Global, fields: &[u8]) -> Result<Laid, Wrong> {
-    let Some(words) = read_row(heap, fields)? else {
-        return Err(Wrong::NotUnderstood);
-    };
-    let verdict = judge(words.as_slice());
-    match verdict {
-        Verdict::Accepted { .. } => Ok(accepted(Said::Grammar(verdict), Part::Grammar(words))),
-        Verdict::Refused(_) => Ok(refused(Said::Grammar(verdict))),
-    }
+    let words = read_row(heap, fields)?.ok_or(Wrong::NotUnderstood)?;
+    let counts = judge(words.as_slice()).0?;
+    Ok(Laid {
+        said: Said::Grammar(counts),
+        part: Part::Grammar(words),
+    })
 }
 
 /// With no words lent, the memory's own questions tell whether its sizes are right: then only words are missing.
 fn lay_whole(heap: Global, fields: &[u8]) -> Result<Laid, Wrong> {
-    let Some((places, rest)) = next_number(fields) else {
-        return Err(Wrong::NotUnderstood);
-    };
-    let Some(rules) = only_number(rest) else {
-        return Err(Wrong::NotUnderstood);
-    };
+    let (places, rest) = next_number(fields)?;
+    let rules = only_number(rest)?;
     let (_, made) = WholeMemory::new(&mut [], places, rules);
     if let Err(Refusal::Size) = made {
-        return Ok(refused(Said::NoSuchMemory(Refusal::Size)));
+        return Err(Refusal::Size.into());
     }
     let words = vec![in heap; 0u32; places.saturating_mul(rules).saturating_mul(16)]?;
-    Ok(accepted(
-        Said::Memory { places, rules },
-        Part::Memory(StoredMemory::Whole {
+    Ok(Laid {
+        said: Said::Memory { places, rules },
+        part: Part::Memory(StoredMemory::Whole {
             words,
             places,
             rules,
         }),
-    ))
+    })
+}
+
+fn lay_ring(fields: &[u8]) -> Result<Laid, Wrong> {
+    no_field(fields)?;
+    let ring = Ring::new();
+    Ok(Laid {
+        said: Said::Memory {
+            places: ring.places(),
+            rules: ring.rules(),
+        },
+        part: Part::Memory(StoredMemory::Ring),
+    })
 }
 
 fn lay_memory(heap: Global, fields: &[u8]) -> Result<Laid, Wrong> {
-    let Some((kind, rest)) = next_field(fields) else {
-        return Err(Wrong::NotUnderstood);
-    };
-    match kind {
-        b"whole" => lay_whole(heap, rest),
-        b"ring" if next_field(rest).is_none() => {
-            let ring = Ring::new();
-            let said = Said::Memory {
-                places: ring.places(),
-                rules: ring.rules(),
-            };
-            Ok(accepted(said, Part::Memory(StoredMemory::Ring)))
-        }
+    match next_field(fields) {
+        Some((b"whole", rest)) => lay_whole(heap, rest),
+        Some((b"ring", rest)) => lay_ring(rest),
         _ => Err(Wrong::NotUnderstood),
     }
 }
 
 /// A buffer beyond the most elements is refused whatever its size, so one place beyond is enough to ask.
 fn lay_buffer<E: Item>(heap: Global, fields: &[u8]) -> Result<Laid, Wrong> {
-    let Some((capacity, rest)) = next_number(fields) else {
-        return Err(Wrong::NotUnderstood);
-    };
-    let Some(items) = E::read_items(heap, rest)? else {
-        return Err(Wrong::NotUnderstood);
-    };
-    let size = items.len();
-    let mut places = vec![in heap; E::UNUSED; capacity.min(MAX_ELEMENTS + 1)]?;
-    let count = size.min(places.len());
-    places[..count].copy_from_slice(&items[..count]);
+    let (capacity, rest) = next_number(fields)?;
+    let mut places = E::read_items(heap, rest)?;
+    let size = places.len();
+    places.resize(capacity.min(MAX_ELEMENTS + 1), E::default())?;
     let (_, made) = Buffer::new(&mut places, size);
-    match made {
-        Ok(()) => Ok(accepted(
-            Said::Text { size, capacity },
-            Part::Text(E::text_of(Stored { places, size })),
-        )),
-        Err(refusal) => Ok(refused(Said::NoSuchText(refusal))),
-    }
+    made?;
+    Ok(Laid {
+        said: Said::Text { size, capacity },
+        part: Part::Text(E::text_of(Stored { places, size })),
+    })
 }
 
 fn lay_fixed(heap: Global, fields: &[u8]) -> Result<Laid, Wrong> {
-    let Some(bytes) = u8::read_items(heap, fields)? else {
-        return Err(Wrong::NotUnderstood);
-    };
+    let bytes = u8::read_items(heap, fields)?;
     let size = bytes.len();
     let (_, made) = FixedBytes::new(bytes.as_slice(), size);
-    match made {
-        Ok(()) => Ok(accepted(
-            Said::Text {
-                size,
-                capacity: size,
-            },
-            Part::Text(StoredText::Fixed(bytes)),
-        )),
-        Err(refusal) => Ok(refused(Said::NoSuchText(refusal))),
-    }
+    made?;
+    Ok(Laid {
+        said: Said::Text {
+            size,
+            capacity: size,
+        },
+        part: Part::Text(StoredText::Fixed(bytes)),
+    })
 }
 
 /// Lays out a part by its command.

@@ -1,91 +1,101 @@
 //! What is answered to a line.
+use grammar::fault::Place;
+use hex::FromHexError;
 use memo::whole::Refusal as MemoryRefusal;
 use reading::reply::Reply;
 use replytext::Shown;
-use rowtext::verdict::Verdict;
+use rowtext::verdict::{Counts, Verdict};
 use std::alloc::AllocError;
 use std::fmt;
 use std::fmt::Display;
 use text::{EditRefusal, MakeRefusal};
+use thiserror::Error;
 
 /// Why a line does nothing.
-#[derive(Clone, Copy)]
+#[derive(Clone, Copy, Debug, Error)]
 pub enum Wrong {
+    #[error("not understood")]
     NotUnderstood,
+    #[error("no grammar yet")]
     NoGrammar,
+    #[error("no memory yet")]
     NoMemory,
+    #[error("no text yet")]
     NoText,
+    #[error("no bench is open")]
     NotOpen,
+    #[error("this text cannot be changed")]
     ReadOnly,
-    TooLittleMemory,
+    #[error("too little memory")]
+    TooLittleMemory(#[from(alloc)] AllocError),
+    #[error("{0}")]
+    Grammar(#[from] Place),
+    #[error("{}", Shown(*.0))]
+    Memory(#[from] MemoryRefusal),
+    #[error("{}", Shown(*.0))]
+    Text(#[from] MakeRefusal),
+    #[error("{}", Shown(*.0))]
+    Change(#[from] EditRefusal),
 }
 
-impl From<AllocError> for Wrong {
-    fn from(_error: AllocError) -> Wrong {
-        Wrong::TooLittleMemory
+impl Wrong {
+    /// Whether it has a number of its own, and so needs not that of its line.
+    fn is_refusal(self) -> bool {
+        matches!(
+            self,
+            Wrong::Grammar(_) | Wrong::Memory(_) | Wrong::Text(_) | Wrong::Change(_)
+        )
     }
 }
 
-/// The answer to a line.
+impl From<FromHexError> for Wrong {
+    fn from(error: FromHexError) -> Wrong {
+        match error {
+            FromHexError::OutOfMemory => Wrong::TooLittleMemory(AllocError),
+            _ => Wrong::NotUnderstood,
+        }
+    }
+}
+
+/// The answer to a line that does something.
 #[derive(Clone, Copy)]
 pub enum Said {
-    Grammar(Verdict),
+    Grammar(Counts),
     Memory { places: usize, rules: usize },
-    NoSuchMemory(MemoryRefusal),
     Text { size: usize, capacity: usize },
-    NoSuchText(MakeRefusal),
     Open,
     Changed(usize),
-    NotChanged(EditRefusal),
     Parsed(Reply),
     Cleared,
-    Wrong(Wrong),
-}
-
-/// An answer with the number of its line.
-#[derive(Clone, Copy)]
-pub struct Answer {
-    pub line: usize,
-    pub said: Said,
-}
-
-/// Why, in a few words.
-fn reason_of(wrong: Wrong) -> &'static str {
-    match wrong {
-        Wrong::NotUnderstood => "not understood",
-        Wrong::NoGrammar => "no grammar yet",
-        Wrong::NoMemory => "no memory yet",
-        Wrong::NoText => "no text yet",
-        Wrong::NotOpen => "no bench is open",
-        Wrong::ReadOnly => "this text cannot be changed",
-        Wrong::TooLittleMemory => "too little memory",
-    }
 }
 
 impl fmt::Display for Said {
     fn fmt<W: fmt::Write>(&self, f: &mut fmt::Formatter<W>) -> fmt::Result {
         match *self {
-            Said::Grammar(verdict) => write!(f, "{verdict}"),
+            Said::Grammar(counts) => Verdict(Ok(counts)).fmt(f),
             Said::Memory { places, rules } => write!(f, "memory {places} {rules}"),
-            Said::NoSuchMemory(refusal) => Shown(refusal).fmt(f),
             Said::Text { size, capacity } => write!(f, "text {size} of {capacity}"),
-            Said::NoSuchText(refusal) => Shown(refusal).fmt(f),
             Said::Open => write!(f, "open"),
             Said::Changed(size) => write!(f, "changed {size}"),
-            Said::NotChanged(refusal) => Shown(refusal).fmt(f),
             Said::Parsed(reply) => Shown(reply).fmt(f),
             Said::Cleared => write!(f, "cleared"),
-            Said::Wrong(wrong) => write!(f, "{}", reason_of(wrong)),
         }
     }
 }
 
+/// The answer to the line of that number.
+#[derive(Clone, Copy)]
+pub struct Answer {
+    pub line: usize,
+    pub said: Result<Said, Wrong>,
+}
+
 impl fmt::Display for Answer {
     fn fmt<W: fmt::Write>(&self, f: &mut fmt::Formatter<W>) -> fmt::Result {
-        let Answer { line, said } = *self;
-        match said {
-            Said::Wrong(_) => write!(f, "line {line}: {said}"),
-            _ => said.fmt(f),
+        match self.said {
+            Ok(said) => said.fmt(f),
+            Err(wrong) if wrong.is_refusal() => wrong.fmt(f),
+            Err(wrong) => write!(f, "line {}: {wrong}", self.line),
         }
     }
 }

@@ -2,9 +2,9 @@
 use crate::command::{Call, Command, read_command};
 use crate::item::Item;
 use crate::keyed::Keyed;
-use crate::parts::{Laid, Part, Parts, Stored, StoredMemory, StoredText};
+use crate::parts::{Laid, Part, Parts, Stored, StoredMemory, StoredText, Whole};
 use crate::said::{Answer, Said, Wrong};
-use crate::script::Script;
+use crate::script::{Line, Script};
 use bench::calls::{clear, open, parse};
 use bench::state::Settled;
 use engine::frame::Frame;
@@ -15,45 +15,26 @@ use memo::whole::WholeMemory;
 use std::alloc::Global;
 use text::{Buffer, FixedBytes, Symbol, Text};
 
-fn answer(rt: &HostRuntime, script: &Script<'_>, said: Said) -> anyhow::Result<()> {
-    rt.println(Answer {
-        line: script.number(),
-        said,
-    })?;
+/// Answers to a line that asks for something.
+fn answer(rt: &HostRuntime, line: usize, said: Result<Said, Wrong>) -> anyhow::Result<()> {
+    rt.println(Answer { line, said })?;
     Ok(())
 }
 
-/// Answers for a part, and hands it on if it was accepted.
-fn told(rt: &HostRuntime, script: &Script<'_>, laid: Laid) -> anyhow::Result<Option<Part>> {
-    answer(rt, script, laid.said)?;
-    Ok(laid.part)
-}
-
-/// Lays out parts until a bench is opened over them; says whether one is.
-fn lay_out(rt: &HostRuntime, script: &mut Script<'_>, parts: &mut Parts) -> anyhow::Result<bool> {
-    for _ in 0..script.left() {
-        let Some(line) = script.next_line() else {
-            return Ok(false);
-        };
-        match read_command(rt.alloc(), line) {
-            Command::Nothing => {}
-            Command::Wrong(wrong) => answer(rt, script, Said::Wrong(wrong))?,
-            Command::Part(laid) => {
-                if let Some(part) = told(rt, script, laid)? {
-                    parts.accept(part);
-                }
-            }
-            Command::Call(Call::Open) => match parts.missing() {
-                Some(wrong) => answer(rt, script, Said::Wrong(wrong))?,
-                None => {
-                    answer(rt, script, Said::Open)?;
-                    return Ok(true);
-                }
-            },
-            Command::Call(_) => answer(rt, script, Said::Wrong(Wrong::NotOpen))?,
+/// What a line does while no bench is open, if it does something.
+fn lay_line(heap: Global, line: &[u8], parts: &mut Parts) -> Result<Option<Said>, Wrong> {
+    match read_command(heap, line)? {
+        None => Ok(None),
+        Some(Command::Part(Laid { said, part })) => {
+            parts.accept(part);
+            Ok(Some(said))
         }
+        Some(Command::Call(Call::Open)) => {
+            let _ = parts.whole()?;
+            Ok(Some(Said::Open))
+        }
+        Some(Command::Call(_)) => Err(Wrong::NotOpen),
     }
-    Ok(false)
 }
 
 /// 2 × N × (n + 1): no parse of n elements by N expressions uses more frames.
@@ -72,10 +53,10 @@ fn parsed<T: Text, M: Memory>(
     memory: &mut M,
     frames: usize,
 ) -> Result<Said, Wrong> {
-    let count = match most_frames(text.size(), grammar.expressions()) {
-        Some(most) => frames.min(most),
-        None => frames,
-    };
+    let count = most_frames(text.size(), grammar.expressions()).map_or(
+        frames,
+        |most| frames.min(most),
+    );
     let mut frames = vec![in heap; Frame::blank(); count]?;
     Ok(Said::Parsed(parse(state, grammar, text, memory, &mut frames)))
 }
@@ -88,153 +69,149 @@ fn made<T: Keyed, M: Memory>(
     grammar: &Grammar<'_>,
     text: &mut T,
     memory: &mut M,
-) -> (Settled, Said) {
+) -> (Settled, Result<Said, Wrong>) {
     match call {
-        Call::Open => (open(grammar, text, memory), Said::Open),
+        Call::Open => (open(grammar, text, memory), Ok(Said::Open)),
         Call::Change(fields) => text.key(heap, state, grammar, memory, fields),
         Call::Clear => {
             clear(&state, grammar, text, memory);
-            (state, Said::Cleared)
+            (state, Ok(Said::Cleared))
         }
         Call::Parse(frames) => {
-            let said = match parsed(heap, &state, grammar, text, memory, frames) {
-                Ok(said) => said,
-                Err(wrong) => Said::Wrong(wrong),
-            };
+            let said = parsed(heap, &state, grammar, text, memory, frames);
             (state, said)
         }
     }
 }
 
-/// Works at a bench that was opened, until a part is accepted: that closes it, and the part comes back.
-fn work<T: Keyed, M: Memory>(
-    rt: &HostRuntime,
-    script: &mut Script<'_>,
-    grammar: &Grammar<'_>,
-    text: &mut T,
-    memory: &mut M,
-) -> anyhow::Result<Option<Part>> {
-    let mut state = open(grammar, text, memory);
-    for _ in 0..script.left() {
-        let Some(line) = script.next_line() else {
-            return Ok(None);
-        };
-        match read_command(rt.alloc(), line) {
-            Command::Nothing => {}
-            Command::Wrong(wrong) => answer(rt, script, Said::Wrong(wrong))?,
-            Command::Part(laid) => {
-                let part = told(rt, script, laid)?;
-                if part.is_some() {
-                    return Ok(part);
+/// A session: what it runs on, and the lines to come.
+#[derive(Drop)]
+struct Session<'a> {
+    rt: &'a HostRuntime,
+    script: Script<'a>,
+}
+
+impl Session<'_> {
+    /// Lays out parts until a bench is opened over them; says whether one is.
+    fn lay_out(&mut self, parts: &mut Parts) -> anyhow::Result<bool> {
+        let rt = self.rt;
+        for line in &mut self.script {
+            if let Some(said) = lay_line(rt.alloc(), line.text, parts).transpose() {
+                answer(rt, line.number, said)?;
+                if let Ok(Said::Open) = said {
+                    return Ok(true);
                 }
             }
-            Command::Call(call) => {
-                let (next, said) = made(rt.alloc(), call, state, grammar, text, memory);
-                state = next;
-                answer(rt, script, said)?;
+        }
+        Ok(false)
+    }
+
+    /// Works at a bench that was opened, until a part is accepted: that closes it, and the part comes back.
+    fn work<T: Keyed, M: Memory>(
+        &mut self,
+        grammar: &Grammar<'_>,
+        text: &mut T,
+        memory: &mut M,
+    ) -> anyhow::Result<Option<Part>> {
+        let rt = self.rt;
+        let mut state = open(grammar, text, memory);
+        for line in &mut self.script {
+            match read_command(rt.alloc(), line.text) {
+                Ok(None) => {}
+                Ok(Some(Command::Part(Laid { said, part }))) => {
+                    answer(rt, line.number, Ok(said))?;
+                    return Ok(Some(part));
+                }
+                Ok(Some(Command::Call(call))) => {
+                    let (next, said) = made(rt.alloc(), call, state, grammar, text, memory);
+                    state = next;
+                    answer(rt, line.number, said)?;
+                }
+                Err(wrong) => answer(rt, line.number, Err(wrong))?,
+            }
+        }
+        Ok(None)
+    }
+
+    /// Works over a text that can be changed, and keeps its size for the next bench.
+    fn over_buffer<E: Symbol + Item, M: Memory>(
+        &mut self,
+        grammar: &Grammar<'_>,
+        stored: &mut Stored<E>,
+        memory: &mut M,
+    ) -> anyhow::Result<Option<Part>> {
+        let (mut text, _) = Buffer::new(&mut stored.places, stored.size);
+        let part = self.work(grammar, &mut text, memory)?;
+        stored.size = text.size();
+        Ok(part)
+    }
+
+    /// Works over the text of the parts.
+    fn over_text<M: Memory>(
+        &mut self,
+        grammar: &Grammar<'_>,
+        text: &mut StoredText,
+        memory: &mut M,
+    ) -> anyhow::Result<Option<Part>> {
+        match text {
+            StoredText::Bytes(stored) => self.over_buffer(grammar, stored, memory),
+            StoredText::Log(stored) => self.over_buffer(grammar, stored, memory),
+            StoredText::Fixed(bytes) => {
+                let (mut text, _) = FixedBytes::new(bytes.as_slice(), bytes.len());
+                self.work(grammar, &mut text, memory)
             }
         }
     }
-    Ok(None)
-}
 
-/// Works over a text that can be changed, and keeps its size for the next bench.
-fn over_buffer<E: Symbol + Item, M: Memory>(
-    rt: &HostRuntime,
-    script: &mut Script<'_>,
-    grammar: &Grammar<'_>,
-    stored: &mut Stored<E>,
-    memory: &mut M,
-) -> anyhow::Result<Option<Part>> {
-    let (mut text, _) = Buffer::new(&mut stored.places, stored.size);
-    let part = work(rt, script, grammar, &mut text, memory)?;
-    stored.size = text.size();
-    Ok(part)
-}
-
-/// Works over the text of the parts.
-fn over_text<M: Memory>(
-    rt: &HostRuntime,
-    script: &mut Script<'_>,
-    grammar: &Grammar<'_>,
-    text: &mut StoredText,
-    memory: &mut M,
-) -> anyhow::Result<Option<Part>> {
-    match text {
-        StoredText::Bytes(stored) => over_buffer(rt, script, grammar, stored, memory),
-        StoredText::Log(stored) => over_buffer(rt, script, grammar, stored, memory),
-        StoredText::Fixed(bytes) => {
-            let (mut text, _) = FixedBytes::new(bytes.as_slice(), bytes.len());
-            work(rt, script, grammar, &mut text, memory)
+    /// Works over the memory of the parts.
+    fn over_memory(
+        &mut self,
+        grammar: &Grammar<'_>,
+        text: &mut StoredText,
+        memory: &mut StoredMemory,
+    ) -> anyhow::Result<Option<Part>> {
+        match memory {
+            StoredMemory::Whole {
+                words,
+                places,
+                rules,
+            } => {
+                let (mut memory, _) = WholeMemory::new(words, *places, *rules);
+                self.over_text(grammar, text, &mut memory)
+            }
+            StoredMemory::Ring => {
+                let mut memory = Ring::new();
+                self.over_text(grammar, text, &mut memory)
+            }
         }
+    }
+
+    /// Works at a bench of the parts. The grammar's words were accepted when they came.
+    fn at_bench(&mut self, parts: Whole<'_>) -> anyhow::Result<Option<Part>> {
+        let Whole {
+            grammar,
+            memory,
+            text,
+        } = parts;
+        let mut work = vec![in self.rt.alloc(); 0u32; 2000]?;
+        let grammar = check(grammar, &mut work).map_err(|fault| Wrong::Grammar(fault.place()))?;
+        self.over_memory(&grammar, text, memory)
     }
 }
 
-/// Works over the memory of the parts.
-fn over_memory(
-    rt: &HostRuntime,
-    script: &mut Script<'_>,
-    grammar: &Grammar<'_>,
-    text: &mut StoredText,
-    memory: &mut StoredMemory,
-) -> anyhow::Result<Option<Part>> {
-    match memory {
-        StoredMemory::Whole {
-            words,
-            places,
-            rules,
-        } => {
-            let (mut memory, _) = WholeMemory::new(words, *places, *rules);
-            over_text(rt, script, grammar, text, &mut memory)
-        }
-        StoredMemory::Ring => {
-            let mut memory = Ring::new();
-            over_text(rt, script, grammar, text, &mut memory)
-        }
-    }
-}
-
-/// Works by the grammar of the parts. Its words were accepted when they came.
-fn by_grammar(
-    rt: &HostRuntime,
-    script: &mut Script<'_>,
-    words: &[u32],
-    text: &mut StoredText,
-    memory: &mut StoredMemory,
-) -> anyhow::Result<Option<Part>> {
-    let mut work_words = vec![in rt.alloc(); 0u32; 2000]?;
-    let mut grammar = Grammar::smallest();
-    let _ = check(words, &mut work_words, &mut grammar);
-    over_memory(rt, script, &grammar, text, memory)
-}
-
-/// Works at a bench of the parts, if they are all there.
-fn at_bench(
-    rt: &HostRuntime,
-    script: &mut Script<'_>,
-    parts: &mut Parts,
-) -> anyhow::Result<Option<Part>> {
-    let Some(words) = &parts.grammar else {
-        return Ok(None);
+/// Runs a session.
+pub fn run(rt: &HostRuntime, lines: &[Line<'_>]) -> anyhow::Result<()> {
+    let mut session = Session {
+        rt,
+        script: lines.iter(),
     };
-    let Some(memory) = &mut parts.memory else {
-        return Ok(None);
-    };
-    let Some(text) = &mut parts.text else {
-        return Ok(None);
-    };
-    by_grammar(rt, script, words.as_slice(), text, memory)
-}
-
-/// Runs a session. Each bench takes at least the line that opens it.
-pub fn run(rt: &HostRuntime, lines: &[&[u8]]) -> anyhow::Result<()> {
-    let mut script = Script::new(lines);
     let mut parts = Parts::none();
-    for _ in 0..lines.len() {
-        if !lay_out(rt, &mut script, &mut parts)? {
+    // a bench takes at least the line that opens it
+    for _ in lines {
+        if !session.lay_out(&mut parts)? {
             return Ok(());
         }
-        if let Some(part) = at_bench(rt, &mut script, &mut parts)? {
+        if let Some(part) = session.at_bench(parts.whole()?)? {
             parts.accept(part);
         }
     }
