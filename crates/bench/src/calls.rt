@@ -36,6 +36,7 @@ pub fn open<T: Text, M: Memory>(grammar: &Grammar<'_>, text: &T, memory: &mut M)
     ensures rules { M.Q memory.new ≡ M.Q memory.old }
     ensures run { Run T.fits (bounds M.keeps (M.P memory.new) (M.Q memory.new) (T.room text.now)) grammar.now.words.now (T.elements text.now) [] (T.elements text.now) (M.table memory.new) [] settled }
 {
+    // asked for what every text promises of its capacity
     let _ = text.capacity();
     forget(memory);
     Settled::new()
@@ -72,6 +73,7 @@ pub fn settle<T: Text, M: Memory>(
 }
 
 /// Parses the text of a settled bench: rule 0 in mode on at place 0.
+// What `read` promises stands here again: a function takes over no clause from the one that it calls.
 pub fn parse<T: Text, M: Memory>(
     _state: &Settled,
     grammar: &Grammar<'_>,

@@ -2,6 +2,7 @@
 ghost use Rattle.bench.specs.Slips.{Spent};
 
 /// The place that marks a slip as spent: no text has it.
+// A number, since a slip is a record of just p, k and m.
 pub(crate) const SPENT: usize = 65_536;
 
 /// A bench is settled: its memory has followed every change of its text.

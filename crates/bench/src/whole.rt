@@ -18,7 +18,7 @@ use reading::reply::Reply;
 use text::Text;
 
 /// `parse` over the whole memory.
-// What `read` and `parse` promise stands here again, since each call is read by itself.
+// What `parse` promises stands here again: a function takes over no clause from the one that it calls.
 pub fn parse_whole<T: Text>(
     state: &Settled,
     grammar: &Grammar<'_>,

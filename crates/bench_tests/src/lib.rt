@@ -50,10 +50,10 @@ mod tests {
         p: usize,
         k: usize,
         items: &[T::Element],
-    ) -> (Settled, Option<EditRefusal>) {
+    ) -> (Settled, Result<(), EditRefusal>) {
         match change(state, grammar, text, memory, p, k, items) {
-            Ok(slip) => (settle(slip, grammar, text, memory), None),
-            Err((state, refusal)) => (state, Some(refusal)),
+            Ok(slip) => (settle(slip, grammar, text, memory), Ok(())),
+            Err((state, refusal)) => (state, Err(refusal)),
         }
     }
 
@@ -77,26 +77,26 @@ mod tests {
             matched(5, Some(2), 0),
             counted,
         )?;
-        let (state, refusal) = key(state, &grammar, &mut text, memory, 2, 0, b";");
-        assert!(rt; refusal.is_none());
+        let (state, changed) = key(state, &grammar, &mut text, memory, 2, 0, b";");
+        assert!(rt; changed.is_ok());
         same(
             rt,
             parse(&state, &grammar, &text, memory, &mut frames),
             matched(6, None, 3),
             counted,
         )?;
-        let (state, refusal) = key(state, &grammar, &mut text, memory, 5, 2, b"");
-        assert!(rt; refusal == Some(EditRefusal::Range));
-        let (state, refusal) = key(state, &grammar, &mut text, memory, 6, 0, b"L3;");
-        assert!(rt; refusal == Some(EditRefusal::Room));
+        let (state, changed) = key(state, &grammar, &mut text, memory, 5, 2, b"");
+        assert!(rt; changed == Err(EditRefusal::Range));
+        let (state, changed) = key(state, &grammar, &mut text, memory, 6, 0, b"L3;");
+        assert!(rt; changed == Err(EditRefusal::Room));
         same(
             rt,
             parse(&state, &grammar, &text, memory, &mut frames),
             matched(6, None, 0),
             counted,
         )?;
-        let (state, refusal) = key(state, &grammar, &mut text, memory, 3, 3, b"");
-        assert!(rt; refusal.is_none());
+        let (state, changed) = key(state, &grammar, &mut text, memory, 3, 3, b"");
+        assert!(rt; changed.is_ok());
         same(
             rt,
             parse(&state, &grammar, &text, memory, &mut frames),

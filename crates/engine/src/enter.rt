@@ -48,6 +48,7 @@ fn opened(ask: Ask, part: usize, mode: Mode) -> Move
 }
 
 /// A terminal.
+// Here and below, that the place is small is asked for `alone`.
 fn terminal<T: Text>(text: &T, a: u32, b: u32, mark: u32, place: usize) -> Reading
     requires { (mark < 32) × (place < 2 ^ 63) }
     ensures { result ≡ read_terminal (accepted T.fits (T.elements text.now) a b place) mark place }

@@ -114,6 +114,7 @@ fn is_nothing(place: usize, outcome: Outcome) -> bool
 }
 
 /// All fits, and a match of nothing only where that may be.
+// A function of its own: in one expression with what it is told of, its three ways would each be a goal.
 fn all_fits(fits: bool, nothing: bool, may: bool) -> bool
     ensures { result ≡ (fits && (not nothing || may)) }
 {
@@ -132,6 +133,7 @@ impl<T: Text> Scene<'_, T> {
     }
 
     /// What a row found comes to, where so many frames are left: question 9, then question 10.
+    // That the place is small is asked of the place alone; with the row it is a fact of `RowAt`.
     pub(crate) fn found(&self, left: usize, at: RulePlace, row: Row) -> Result<Reading, Refusal>
         requires { at.place < 2 ^ 63 }
         ensures { (G : Setting) (h : ℕ) → G.grammar ≡ meaning self.now.grammar.now.words.now → G.size ≡ self.now.size → h + left ≡ G.frames → Found G h at.rule at.place at.mode row result }

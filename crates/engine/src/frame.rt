@@ -8,7 +8,7 @@ use crate::step::{Ask, Move};
 use peg::results::{Note, Outcome, Reading, Recoveries};
 
 /// An open expression, with what its finished parts gave. Blank is all zero.
-// Lent frames are plain numbers, a form of the project: so `mode`, `stage` and `noted` are no enum, bool or Option.
+// Lent frames are plain numbers, a form of the project: so `mode`, `stage` and `noted` are no enum, bool or Option, and `count` 0 says that there is no first.
 #[derive(Clone, Copy, PartialEq, Eq, Debug, Default)]
 pub struct Frame {
     /// The expression's number.

@@ -9,6 +9,7 @@ use peg::results::{Note, Outcome, Reading, Recoveries};
 use std::cmp::Ordering;
 
 /// No recoveries.
+// By a name: its clause says which value the default is.
 pub(crate) fn none_recovered() -> Recoveries
     ensures { result ≡ no_recoveries }
 {
@@ -16,6 +17,7 @@ pub(crate) fn none_recovered() -> Recoveries
 }
 
 /// An expression that evaluates no parts.
+// That the place is small is asked where 1 is added to it; places of the text go through every other function as they are.
 pub(crate) fn alone(place: usize, outcome: Outcome, note: Option<Note>) -> Reading
     requires { place < 2 ^ 63 }
     ensures { result ≡ read_alone place outcome note }

@@ -17,6 +17,7 @@ use memo::row::Row;
 use peg::results::{Outcome, Reading, RulePlace};
 
 /// The row of what a rule gave at a place.
+// `Fine` stays a clause: it has several ways to hold, and a ghost field keeps only what has one.
 fn row_at(place: usize, v: Reading) -> Row
     requires small { Fine v }
     ensures { result ≡ row_of place v }

@@ -5,6 +5,7 @@ use grammar::accepted::Grammar;
 use text::Text;
 
 /// A grammar, a text with its size, and how many frames are lent.
+// The size and the number of frames stand here too: the text is asked once, and the frames themselves are lent for writing elsewhere.
 #[derive(Drop)]
 pub(crate) struct Scene<'a, T: Text> {
     pub(crate) grammar: &'a Grammar<'a>,

@@ -17,6 +17,9 @@ use crate::row::{
     sets_of,
 };
 
+/// Work words that are enough for every grammar.
+pub const MOST_WORK: usize = 2000;
+
 /// The smallest grammar: one rule, whose body is the empty expression.
 static SMALLEST: [u32; 3] = [0x8004_0100, 0x9000_0000, 0];
 

@@ -122,7 +122,7 @@ fn at(number: u8, layer: Layer, word: usize) -> Place
     }
 }
 
-// A fault is asked for its place, layer by layer; a `From` for `Place` would read no plainer at its calls than `fault.place()`.
+// Here and below: one method a layer, since each layer has cases of its own and asks the layer below for the others.
 impl WordFault {
     /// The number, layer and word of the fault.
     fn place(self) -> Place

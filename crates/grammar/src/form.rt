@@ -71,10 +71,8 @@ fn is_due(words: &[u32], work: &[u32], fact: Fact, number: usize, mode: Mode) ->
     }
 }
 
-// What is marked so far (`ready`, `backed`) stays in the clauses: it holds derivations, of which a ghost field can keep none, and a
-// struct of the row and the lent work words would have to promise at each step that both stay.
-
 /// Marks a fact of an expression if it is due; says whether that was a new mark.
+// Here and below, `room`, `ready` and `backed` stay clauses: they speak of the lent work words, which change at each step, and the last two hold derivations, which no ghost field keeps.
 fn grow(row: &WholeRow, work: &mut [u32], fact: Fact, number: usize, mode: Mode) -> bool
     requires room { 2 * (meaning row.now.words.now).N ≤ length work.old }
     requires known { number < (meaning row.now.words.now).N }

@@ -28,9 +28,8 @@ impl From<Fact> for usize {
     }
 }
 
-// Fact, number and mode stay three arguments: calls name each in place, and would build a struct of them only to take it apart.
-
 /// Whether a fact is marked; beyond the work words nothing is.
+// Fact, number and mode stay three arguments: most calls name a part and a mode of their own beside a fact that stays.
 pub(crate) fn marked(work: &[u32], fact: Fact, number: usize, mode: Mode) -> bool
     ensures { result ≡ mark work.now fact number mode }
 {

@@ -46,6 +46,7 @@ impl Kind {
 }
 
 /// Bits 27 to 18.
+// One function a field: a common one would be told shift and mask at each call.
 pub(crate) fn a_of(word: u32) -> u32
     ensures { result ≡ field_a word }
 {

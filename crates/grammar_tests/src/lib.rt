@@ -16,17 +16,10 @@ pub fn plain(heap: Global, n: u32, r: u32, l: u32, s: u32) -> Result<Vec<u32>, A
     let mut words = Vec::new(heap);
     let header = 0x8000_0000u32 | (n & 0x3ff) << 18 | (r & 0x3ff) << 8 | l & 0xff;
     words.push(header)?;
-    for _ in 0..r {
-        words.push(0x9000_0000)?;
-    }
-    for _ in 0..l {
-        words.push(0xA000_0000)?;
-    }
-    for _ in 0..s {
-        words.push(0xB000_0000)?;
-    }
-    for _ in 0..n {
-        words.push(0)?;
+    for (word, times) in [(0x9000_0000, r), (0xA000_0000, l), (0xB000_0000, s), (0, n)] {
+        for _ in 0..times {
+            words.push(word)?;
+        }
     }
     Ok(words)
 }

@@ -39,6 +39,7 @@ pub trait Memory {
         ensures rules { Q self.new ≡ Q self.old };
 
     /// Follows a change of k elements at p into m. A memory that forgets may drop more.
+    // p, k and m stay three: a settle has them in its slip, and would build a struct for this one call
     fn shift(&mut self, p: usize, k: usize, m: usize)
         ensures shifts { Shifts keeps (P self.old) p k m (table self.old) (table self.new) }
         ensures places { P self.new ≡ P self.old }

@@ -10,7 +10,7 @@ use Rattle.grammar.specs.Form.{Nullable, Leads, Endless, Refers, Whole}
 use Rattle.grammar.specs.Form.{by_empty, by_repetition, by_predicate, by_call, by_sequence, by_first, by_second, by_recovery}
 use Rattle.grammar.specs.Form.{to_body, to_first, past_first, to_one, to_other, to_part, to_inside, to_recovery}
 use Rattle.grammar.specs.Faults.{wrong}
-use Rattle.grammar.specs.Questions.{fewest_words, most_words, most_expressions, most_rules, most_labels, most_sets, least_words, Between, Headed, formed, named, word_of, Never, WordAtFault, HollowAt, Hollow, EndlessAt, ReferencesPass, FormPasses}
+use Rattle.grammar.specs.Questions.{fewest_words, most_words, most_expressions, most_rules, most_labels, most_sets, least_words, Between, Headed, formed, named, word_of, Never, HollowAt, Hollow, EndlessAt, ReferencesPass, FormPasses}
 use Rattle.grammar.specs.Marks.{Marks, fact_bit, may, may_recovery, ends, ends_recovery, hollow}
 use Rattle.grammar.proofs.Referring.{whole}
 use Rattle.grammar.proofs.Finding.{lowest_word, no_word}

@@ -16,7 +16,7 @@ pub fn account(heap: Global, input: &[u8]) -> Result<String, AllocError>
     let mut rows = 0usize;
     let mut accepted = 0usize;
     let mut rest = input;
-    // no iterator of its own: that would have to say again what the clauses of next_piece say of each piece
+    // no iterator of its own, and so no `enumerate`: it would have to say again what the clauses of next_piece say of each piece
     while let Some((line, after)) = next_piece(rest, b'\n') {
         rest = after;
         lines += 1;

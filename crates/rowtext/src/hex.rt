@@ -13,6 +13,7 @@ pub fn read_word(text: &[u8]) -> Option<u32>
         return None;
     }
     let mut word = 0;
+    // no `from_str_radix`: it also reads a sign, and asks first that the bytes are UTF-8
     for byte in text {
         word = word * 16 + char::from(*byte).to_digit(16)?;
     }

@@ -4,6 +4,7 @@ ghost use Rattle.std.specs.Option.{option_map};
 ghost use Rattle.rowtext.specs.Pieces.{pieces, cut};
 
 /// How many bytes stand before the first separator; all of them, where there is none.
+// A number and no Option: both ways the first piece is what stands before it.
 fn before(text: &[u8], separator: u8) -> usize
     ensures within { result ≤ length text.now }
     ensures apart { (k : ℕ) → k < result → slice_index text.now k ≢ separator }

@@ -4,12 +4,9 @@ ghost use Rattle.grammar.specs.Words.{meaning};
 ghost use Rattle.rowtext.specs.Exact.{Exactly};
 ghost use Rattle.rowtext.specs.Verdicts.{counts_text, verdict_text, numbers, Refuses, Judged, RefusedBy};
 
-use grammar::accepted::{Grammar, check};
+use grammar::accepted::{Grammar, MOST_WORK, check};
 use grammar::fault::{FormFault, Place};
 use std::fmt;
-
-/// The work words that a check is lent: enough for every grammar.
-const WORK: usize = 2000;
 
 /// How many expressions, rules, labels and sets a grammar has.
 #[derive(Clone, Copy, PartialEq, Eq, Debug)]
@@ -73,7 +70,7 @@ pub fn judge(words: &[u32]) -> Verdict
     ensures answers { Exactly result (Judged words.now) }
     ensures roomy { RefusedBy 5 result → ⊥ }
 {
-    let mut work = [0; WORK];
+    let mut work = [0; MOST_WORK];
     match check(words, &mut work) {
         Ok(grammar) => Verdict::accepted(&grammar),
         Err(fault) => Verdict::refused(fault),

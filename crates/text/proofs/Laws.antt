@@ -1,9 +1,8 @@
 -- Laws of what a pair accepts, and of a list with a part replaced.
-use Rattle.std.proofs.Common.{◌≡◌, ℕ, zero, suc, ◌+◌, ◌-◌, ◌<◌, ◌≤◌, Bool, true, false, List, [], ◌∷◌, ◌++◌, length, get_or, take, drop, is_ok, Ok, Err, Result, Option, Some, None, MatchOption, sym, refl, ap, ◌∙◌, ⊎_elim, le_of_suc-le-suc, not-suc-le-zero, suc-add, zero-add, arith, length-append, length-drop, length-take}
+use Rattle.std.proofs.Common.{◌≡◌, ℕ, zero, suc, ◌+◌, ◌-◌, ◌<◌, ◌≤◌, Bool, true, false, List, [], ◌∷◌, ◌++◌, length, get_or, take, drop, is_ok, Ok, Err, Result, Option, Some, None, MatchOption, sym, refl, ap, ◌∙◌, le_of_suc-le-suc, not-suc-le-zero, suc-add, zero-add, arith, length-append, length-drop, length-take}
 use Rattle.std.specs.Slice.{IsItemAt}
 use denote.Ref.{Bor}
 use Rattle.std.proofs.lemmas.List.{length-take-le}
-use Rattle.std.proofs.lemmas.Bool.{cases_lt, false≢true}
 use Rattle.text.specs.declared.EditRefusal.{EditRefusal}
 use Rattle.text.specs.declared.EditRefusal.TheVariants.{Range, Room}
 use Rattle.text.specs.declared.MakeRefusal.{MakeRefusal}
@@ -95,9 +94,9 @@ edit_made (Err Room) n room p k m h l in' fits = absurd (omega (arith, (l.0 refl
 -- a change that is made stays within both
 pub edit_fits : (r : Result (Unit {0}) EditRefusal) (n room p k m : ℕ) → RangeExactly r n p k → RoomExactly r n room p k m → is_ok r ≡ true → (p + k ≤ n) × (n - k + m ≤ room)
 edit_fits (Ok x) n room p k m h l e =
-    let in' : p + k ≤ n = ⊎_elim (λ lt. let z : ◌≡◌ {A = ℕ} 0 11 = h.1 lt in omega arith) (λ le. le) (cases_lt n (p + k)) in
-    (in', ⊎_elim (λ lt. let z : ◌≡◌ {A = ℕ} 0 12 = l.1 (in', lt) in omega arith) (λ le. le) (cases_lt room (n - k + m)))
-edit_fits (Err y) n room p k m h l e = absurd (false≢true e)
+    let in' : p + k ≤ n = grind (arith, h.1) in
+    (in', grind (arith, l.1))
+edit_fits (Err y) n room p k m h l e = absurd (cc)
 
 -- a buffer and a count within the limits make a text
 pub make_made : (r : Result (Unit {0}) MakeRefusal) (n count : ℕ) → BufferExactly r n → CountExactly r n count → n ≤ 65535 → count ≤ n → is_ok r ≡ true

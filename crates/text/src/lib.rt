@@ -85,7 +85,7 @@ pub trait Text {
 /// A text that can be changed.
 pub trait EditableText: Text {
     /// Puts the items where k elements stood at p, or says why not and changes nothing.
-    // p, k and items as the bench's change takes them
+    // p, k and items stay three: a struct of them would hold a loan, and each call would build it to pass it on
     fn replace(&mut self, p: usize, k: usize, items: &[Self::Element]) -> Result<(), EditRefusal>
         ensures range { RangeExactly result (length (Self.Text.elements self.old)) p k }
         ensures room { RoomExactly result (length (Self.Text.elements self.old)) (Self.Text.room self.old) p k (length items.now) }

@@ -4,6 +4,7 @@ ghost use Rattle.text.specs.Meaning.{replaced};
 ghost use Rattle.std.proofs.Math.Seq.{paste};
 
 /// Puts the items where k elements stood at p, among the n in front; the elements behind them move up or down.
+// n stands beside the places: the rest of the lent buffer takes what the text grows by
 pub(crate) fn splice<E: Copy>(places: &mut [E], n: usize, p: usize, k: usize, items: &[E])
     requires used { n ≤ length places.old }
     requires range { p + k ≤ n }

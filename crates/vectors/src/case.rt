@@ -32,6 +32,7 @@ fn numbers_of<T: Drop, F: Fn(&str) -> Result<T, ParseIntError>>(
 }
 
 /// Words in hexadecimal.
+// Not rowtext's `read_row`: a case that is malformed ends the program with an error, where that gives none.
 fn words_of(heap: Global, text: &str) -> anyhow::Result<Vec<u32>> {
     numbers_of(heap, text, |word| u32::from_str_radix(word, 16))
 }

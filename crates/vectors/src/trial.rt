@@ -4,7 +4,7 @@ use crate::shown::{Line, Read};
 use anyhow::Context;
 use engine::frame::Frame;
 use engine::read::read;
-use grammar::accepted::{Grammar, check};
+use grammar::accepted::{Grammar, MOST_WORK, check};
 use memo::memory::Memory;
 use memo::ring::state::Ring;
 use memo::whole::WholeMemory;
@@ -78,7 +78,7 @@ pub fn answer(heap: Global, line: &str) -> anyhow::Result<Line> {
         elements,
         frames,
     } = case_of(heap, line)?;
-    let mut work = vec![in heap; 0u32; 2000]?;
+    let mut work = vec![in heap; 0u32; MOST_WORK]?;
     let read = match check(&words, &mut work) {
         Ok(grammar) => Ok(read_elements(heap, &grammar, elements, frames)?),
         Err(fault) => Err(fault.place()),
