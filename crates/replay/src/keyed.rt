@@ -48,6 +48,7 @@ impl<E: Symbol + Item> Keyed for Buffer<'_, E> {
     ) -> (Settled, Result<Said, Wrong>) {
         let Key { p, k, items } = match read_key::<E>(heap, fields) {
             Ok(key) => key,
+            // by hand: the state goes back beside the error
             Err(wrong) => return (state, Err(wrong)),
         };
         match change(state, grammar, self, memory, p, k, items.as_slice()) {

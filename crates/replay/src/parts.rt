@@ -48,7 +48,7 @@ pub enum Part {
 }
 
 /// The parts there are.
-#[derive(Drop)]
+#[derive(Default, Drop)]
 pub struct Parts {
     pub grammar: Option<Vec<u32>>,
     pub memory: Option<StoredMemory>,
@@ -56,15 +56,6 @@ pub struct Parts {
 }
 
 impl Parts {
-    /// No part yet.
-    pub fn none() -> Parts {
-        Parts {
-            grammar: None,
-            memory: None,
-            text: None,
-        }
-    }
-
     /// Puts a part in the place of the one that was there.
     pub fn accept(&mut self, part: Part) {
         match part {

@@ -17,7 +17,7 @@ pub type Script<'a> = Iter<'a, Line<'a>>;
 pub fn lines_of<'a>(heap: Global, input: &'a [u8]) -> Result<Vec<Line<'a>>, AllocError> {
     let mut lines = Vec::new(heap);
     let mut rest = input;
-    // as the account of rows does: what next_piece leaves over is taken on
+    // no iterator over pieces: it would be longer than this loop
     while let Some((text, after)) = next_piece(rest, b'\n') {
         rest = after;
         let number = lines.len() + 1;

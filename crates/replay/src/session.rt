@@ -8,7 +8,7 @@ use crate::script::{Line, Script};
 use bench::calls::{clear, open, parse};
 use bench::state::Settled;
 use engine::frame::Frame;
-use grammar::accepted::{Grammar, check};
+use grammar::accepted::{Grammar, MOST_WORK, check};
 use memo::memory::Memory;
 use memo::ring::state::Ring;
 use memo::whole::WholeMemory;
@@ -45,6 +45,7 @@ fn most_frames(size: usize, expressions: usize) -> Option<usize> {
 }
 
 /// A parse with so many frames.
+// Here and below, grammar, text and memory are lent one by one, as the calls of a bench take them.
 fn parsed<T: Text, M: Memory>(
     heap: Global,
     state: &Settled,
@@ -92,18 +93,18 @@ struct Session<'a> {
 }
 
 impl Session<'_> {
-    /// Lays out parts until a bench is opened over them; says whether one is.
-    fn lay_out(&mut self, parts: &mut Parts) -> anyhow::Result<bool> {
+    /// Lays out parts until a bench is opened over them; none, if none is.
+    fn lay_out<'p>(&mut self, parts: &'p mut Parts) -> anyhow::Result<Option<Whole<'p>>> {
         let rt = self.rt;
         for line in &mut self.script {
             if let Some(said) = lay_line(rt.alloc(), line.text, parts).transpose() {
                 answer(rt, line.number, said)?;
                 if let Ok(Said::Open) = said {
-                    return Ok(true);
+                    return Ok(Some(parts.whole()?));
                 }
             }
         }
-        Ok(false)
+        Ok(None)
     }
 
     /// Works at a bench that was opened, until a part is accepted: that closes it, and the part comes back.
@@ -193,7 +194,7 @@ impl Session<'_> {
             memory,
             text,
         } = parts;
-        let mut work = vec![in self.rt.alloc(); 0u32; 2000]?;
+        let mut work = vec![in self.rt.alloc(); 0u32; MOST_WORK]?;
         let grammar = check(grammar, &mut work).map_err(|fault| Wrong::Grammar(fault.place()))?;
         self.over_memory(&grammar, text, memory)
     }
@@ -205,13 +206,13 @@ pub fn run(rt: &HostRuntime, lines: &[Line<'_>]) -> anyhow::Result<()> {
         rt,
         script: lines.iter(),
     };
-    let mut parts = Parts::none();
-    // a bench takes at least the line that opens it
+    let mut parts = Parts::default();
+    // as many benches as lines are enough, since each takes at least the line that opens it; so the loop is seen to end
     for _ in lines {
-        if !session.lay_out(&mut parts)? {
+        let Some(whole) = session.lay_out(&mut parts)? else {
             return Ok(());
-        }
-        if let Some(part) = session.at_bench(parts.whole()?)? {
+        };
+        if let Some(part) = session.at_bench(whole)? {
             parts.accept(part);
         }
     }
