@@ -3,9 +3,9 @@ use Rattle.std.specs.Prelude.{◌≡◌, ℕ, max, List, length, take, drop}
 use Rattle.text.specs.declared.buffer.Buffer.{Buffer}
 use Rattle.text.specs.declared.fixed.FixedBytes.{FixedBytes}
 
--- the text of fixed bytes: those that are held
+-- the text of fixed bytes: as many from the start as its size says, which are at most those that are there
 abbrev pub fixed_text : FixedBytes → List ℕ
-fixed_text s = s.bytes.now
+fixed_text s = take s.size s.bytes.now
 
 -- fixed bytes have no room for more
 abbrev pub fixed_room : FixedBytes → ℕ

@@ -4,11 +4,14 @@ ghost use Rattle.std.specs.Prelude.{◌≡◌, ◌≤◌, [], length, take, Matc
 use crate::symbol::accepts_at;
 use crate::{MakeRefusal, Text, check_making};
 
-/// A text of lent bytes.
+/// A text of the first bytes of a lent buffer.
+// A size beside the bytes: a refused making leaves them whole to a text of no bytes.
 #[derive(Clone, Copy)]
 pub struct FixedBytes<'a> {
     bytes: &'a [u8],
-    ghost few: { length bytes.now ≤ 65535 },
+    size: usize,
+    ghost fits: { size ≤ length bytes.now },
+    ghost few: { size ≤ 65535 },
 }
 
 impl<'a> FixedBytes<'a> {
@@ -21,17 +24,14 @@ impl<'a> FixedBytes<'a> {
         ensures buffer { BufferExactly result.1 (length bytes.now) }
         ensures count { CountExactly result.1 (length bytes.now) count }
         ensures made { MatchResult result.1 (λ _. (fixed_text result.0 ≡ take count bytes.now) × (fixed_room result.0 ≡ count)) (λ _. (fixed_text result.0 ≡ []) × (fixed_room result.0 ≡ 0)) }
-        ensures untouched { result.0.bytes.now ≡ take (fixed_room result.0) bytes.now }
+        ensures untouched { result.0.bytes.now ≡ bytes.now }
     {
         let made = check_making(bytes.len(), count);
         let size = match made {
             Ok(()) => count,
             Err(_) => 0,
         };
-        let text = FixedBytes {
-            bytes: &bytes[..size],
-        };
-        (text, made)
+        (FixedBytes { bytes, size }, made)
     }
 }
 
@@ -48,7 +48,7 @@ impl Text for FixedBytes<'_> {
     ghost room = { fixed_room };
 
     fn size(&self) -> usize {
-        self.bytes.len()
+        self.size
     }
 
     fn capacity(&self) -> usize {
@@ -56,6 +56,6 @@ impl Text for FixedBytes<'_> {
     }
 
     fn accepts(&self, a: u32, b: u32, place: usize) -> bool {
-        accepts_at(self.bytes, a, b, place)
+        accepts_at(&self.bytes[..self.size], a, b, place)
     }
 }
