@@ -1,8 +1,9 @@
 -- Entries in the order put: finding one, entering one, shifting them all.
-use Rattle.std.proofs.Common.{◌≡◌, ℕ, zero, suc, ◌<◌, Bool, true, false, cond, not, ◌&&◌, eqb, ltb, ◌⊎◌, List, [], ◌∷◌, ◌++◌, take, filter, is_some, Some, None, Option, sym, refl, ap, ◌∙◌, subst, inl, inr, arith}
-use Rattle.std.proofs.lemmas.Option.{none-some}
+use Rattle.std.proofs.Common.{◌≡◌, ℕ, zero, suc, ◌+◌, ◌<◌, ◌≤◌, Bool, true, false, cond, not, ◌&&◌, eqb, ltb, ◌⊎◌, List, [], ◌∷◌, ◌++◌, length, take, drop, is_some, Some, None, Option, sym, refl, ap, ◌∙◌, subst, inl, inr, arith}
+use Rattle.std.proofs.lemmas.Option.{none-some, same_Some}
 use Rattle.std.proofs.lemmas.Bool.{both_ways, cases_Bool, and_parts, and_from, not-true, ltb-true, eqb-true, eq-eqb, lt-ltb, cond-true, cond-false}
-use Rattle.std.specs.List.{find}
+use Rattle.std.proofs.lemmas.List.{take_all, length-append, length-take, length-drop}
+use Rattle.std.specs.List.{find, position_from}
 use Rattle.std.specs.Option.{option_map}
 use Rattle.std.specs.List.Retain.{RetainsInTurn}
 use denote.Enum.Bare.{sameb}
@@ -13,7 +14,7 @@ use Rattle.peg.specs.declared.results.RulePlace.{RulePlace}
 use Rattle.memo.specs.declared.row.Row.{Row}
 use Rattle.memo.specs.declared.entries.Entry.{Entry}
 use Rattle.memo.specs.Tables.{Same}
-use Rattle.memo.specs.Entries.{same_mode, names, found, holds, lawful, without, rehomed, at_place, shifted}
+use Rattle.memo.specs.Entries.{same_mode, names, found, holds, lawful, without, entered, rehomed, at_place, shifted}
 
 same_mode_is : (a b : Mode) → same_mode a b ≡ true → a ≡ b
 same_mode_is On On e = refl
@@ -160,18 +161,73 @@ module _ (e : Entry) where
             ∙ ap (λ (y : Option Row). cond (names f r i o) (Some f.row) y) (found_without fs r i o h)
       ]
 
--- what `retain` leaves of others
-passed : (b : Bool) (xs ys : List Entry) → cond (not b) xs ys ≡ cond b ys xs
-passed true xs ys = refl
-passed false xs ys = refl
+-- the place of the first entry of a rule-place, as `position` counts from k
+abbrev pub place_from : ℕ → RulePlace → List Entry → Option ℕ
+place_from k a es = position_from (λ e. of_rule_place e a) k es
 
-pub without_filter : (e : Entry) (es : List Entry) → filter (λ x. not (of_rule_place x e.at)) es ≡ without e es
-without_filter e [] = refl
-without_filter e (f ∷ fs) =
-    let rest = filter (λ x. not (of_rule_place x e.at)) fs in
-    let names-f = names f e.at.rule e.at.place e.at.mode in
-    ap (λ (b : Bool). cond (not b) (f ∷ rest) rest) (names_eq f e.at) ∙ passed names-f (f ∷ rest) rest
-    ∙ ap (λ (zs : List Entry). cond names-f zs (f ∷ zs)) (without_filter e fs)
+module _ (e : Entry) where
+  pub without_none : (es : List Entry) → found es e.at.rule e.at.place e.at.mode ≡ None → without e es ≡ es
+  without_none [] h = refl
+  without_none (x ∷ xs) h =
+      elim (cases_Bool (names x e.at.rule e.at.place e.at.mode)) [
+        | inl t ↦ absurd (none-some x.row (sym h ∙ cond-true _ _ _ t))
+        | inr f ↦ cond-false _ _ _ f ∙ ap (λ (zs : List Entry). x ∷ zs) (without_none xs (sym (found_next x xs _ _ _ f) ∙ h))
+      ]
+
+  -- where the entry's rule-place is nowhere, all are others
+  others_all : (k : ℕ) (es : List Entry) → place_from k e.at es ≡ None → without e es ≡ es
+  others_all k [] h = refl
+  others_all k (x ∷ xs) h =
+      elim (cases_Bool (of_rule_place x e.at)) [
+        | inl t ↦ absurd (none-some k (sym h ∙ cond-true _ _ _ t))
+        | inr f ↦ cond-false _ _ _ (sym (names_eq x e.at) ∙ f) ∙ ap (λ (zs : List Entry). x ∷ zs) (others_all (k + 1) xs (sym (cond-false _ _ _ f) ∙ h))
+      ]
+
+  -- and where it is at i, those before and behind are
+  record Beside (es : List Entry) (i : ℕ) : Type 0 where
+    pub low : i < length es
+    pub others : without e es ≡ take i es ++ drop (suc i) es
+
+  others_at : (k j : ℕ) (es : List Entry) → lawful es ≡ true → place_from k e.at es ≡ Some j → (i : ℕ) × (j ≡ k + i) × Beside es i
+  others_at k j [] law h = absurd (none-some j h)
+  others_at k j (x ∷ xs) law h =
+      let l = lawful_is x xs law in
+      elim (cases_Bool (of_rule_place x e.at)) [
+        | inl t ↦
+            let named : names x e.at.rule e.at.place e.at.mode ≡ true = sym (names_eq x e.at) ∙ t in
+            let s = names_is x e.at.rule e.at.place e.at.mode named in
+            let alone : found xs e.at.rule e.at.place e.at.mode ≡ None = rw (sym s.0, sym s.1, sym s.2) l.alone in
+            let is : k ≡ j = same_Some k j (sym (cond-true _ _ _ t) ∙ h) in
+            (0, omega arith, record { low = omega arith; others = cond-true _ _ _ named ∙ without_none xs alone })
+        | inr f ↦
+            let rest = others_at (k + 1) j xs l.rest (sym (cond-false _ _ _ f) ∙ h) in (
+              suc rest.0,
+              omega (arith, rest.1),
+              record {
+                low = omega (arith, rest.2.low);
+                others = cond-false _ _ _ (sym (names_eq x e.at) ∙ f) ∙ ap (λ (zs : List Entry). x ∷ zs) rest.2.others;
+              },
+            )
+      ]
+
+  -- a put in the place of the entry at i, with those before it one back
+  pub entered_at : (es zs : List Entry) (i : ℕ) → lawful es ≡ true → length es ≤ 64 → place_from 0 e.at es ≡ Some i
+      → zs ≡ e ∷ (take i es ++ drop (i + 1) es) → (zs ≡ entered e es) × (length zs ≡ length es)
+  entered_at es zs i law few h is =
+      let got = others_at 0 i es law h in
+      let same : got.0 ≡ i = omega (arith, got.1) in
+      let beside = subst (λ (j : ℕ). Beside es j) same got.2 in
+      let rest = take i es ++ drop (i + 1) es in
+      let next : suc i ≡ i + 1 = omega arith in
+      let others : without e es ≡ rest = beside.others ∙ ap (λ (n : ℕ). take i es ++ drop n es) next in
+      let long : suc (length rest) ≡ length es = simp (length-append, length-take, length-drop) (omega (arith, beside.low)) in (
+        is ∙ ap (λ (zs : List Entry). e ∷ zs) (sym (ap (λ (ys : List Entry). take 63 ys) others ∙ take_all 63 rest (omega arith))),
+        ap (λ (ys : List Entry). length ys) is ∙ long,
+      )
+
+  -- and one in front of all others, without the one put longest ago
+  pub entered_new : (es zs : List Entry) → place_from 0 e.at es ≡ None → zs ≡ e ∷ take 63 es → zs ≡ entered e es
+  entered_new es zs h is = is ∙ ap (λ (ys : List Entry). e ∷ take 63 ys) (sym (others_all 0 es h))
 
 -- and from entries before and after a point each by themselves
 pub without-++ : (e : Entry) (xs ys : List Entry) → without e (xs ++ ys) ≡ without e xs ++ without e ys

@@ -149,7 +149,7 @@ ring_puts es zs r i o x h l law is =
     })
 
 -- what a memory that keeps does, one that need not may do
-shifts_weak : (P p k m : ℕ) (T U : Table) → Shifts true P p k m T U → Shifts false P p k m T U
+pub shifts_weak : (P p k m : ℕ) (T U : Table) → Shifts true P p k m T U → Shifts false P p k m T U
 shifts_weak P p k m T U s = record { only = s.only; all = λ t r i o x may. absurd (both_ways false refl t) }
 
 module _ (p k m : ℕ) where

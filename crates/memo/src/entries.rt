@@ -1,6 +1,6 @@
 //! Entries of the ring, the one put last first.
-ghost use Rattle.std.specs.Prelude.{◌≡◌, ◌≤◌, [], ◌∷◌, cond, length};
-ghost use Rattle.memo.specs.Entries.{found, entered, rehomed, at_place, shifted};
+ghost use Rattle.std.specs.Prelude.{◌≡◌, ◌+◌, ◌<◌, ◌≤◌, true, [], ◌∷◌, ◌++◌, cond, length, take, drop};
+ghost use Rattle.memo.specs.Entries.{found, lawful, entered, rehomed, at_place, shifted};
 
 use crate::change::Change;
 use crate::row::Row;
@@ -44,16 +44,31 @@ pub(crate) fn find(entries: &[Entry], at: RulePlace) -> Option<Row>
         .map(|entry| entry.row)
 }
 
+/// Puts an entry in front in place of the one at i; those before it go one back.
+fn renew(entries: &mut [Entry], i: usize, new: Entry)
+    requires { i < length entries.old }
+    ensures { entries.new ≡ new ∷ take i entries.old ++ drop (i + 1) entries.old }
+{
+    entries[i] = new;
+    entries[..=i].rotate_right(1);
+}
+
 /// Puts an entry in front. The old one of its rule-place goes, or of 64 others the one put longest ago.
+// no second entry is of that rule-place: the search stops at the old one, and those behind it stay
 pub(crate) fn enter(entries: &mut ArrayVec<Entry, 64>, new: Entry)
+    requires lawful { lawful entries.old.items ≡ true }
     ensures entered { entries.new.items ≡ entered new entries.old.items }
     ensures few { length entries.new.items ≤ 64 }
 {
-    entries.retain(|entry| entry.at != new.at);
-    if entries.is_full() {
-        entries.pop();
+    match entries.iter().position(|entry| entry.at == new.at) {
+        Some(i) => renew(entries.as_mut_slice(), i, new),
+        None => {
+            if entries.is_full() {
+                entries.pop();
+            }
+            entries.insert(0, new);
+        }
     }
-    entries.insert(0, new);
 }
 
 /// Keeps, moves and drops entries, in their order.
