@@ -134,6 +134,8 @@ impl<T: Text> Scene<'_, T> {
 
     /// What a row found comes to, where so many frames are left: question 9, then question 10.
     // That the place is small is asked of the place alone; with the row it is a fact of `RowAt`.
+    // Inlined, since a parse after a change is mostly rows that are found.
+    #[inline(always)]
     pub(crate) fn found(&self, left: usize, at: RulePlace, row: Row) -> Result<Reading, Refusal>
         requires { at.place < 2 ^ 63 }
         ensures { (G : Setting) (h : ℕ) → G.grammar ≡ meaning self.now.grammar.now.words.now → G.size ≡ self.now.size → h + left ≡ G.frames → Found G h at.rule at.place at.mode row result }

@@ -75,6 +75,7 @@ struct Handover {
     ghost shallow: { frame.depth + 1 < 2 ^ 64 },
 }
 
+// The four `after_` are inlined: called, each would have frame and reading copied to it for every step.
 impl Handover {
     /// What the finished parts came to.
     fn so_far(self) -> Part
@@ -97,6 +98,7 @@ impl Handover {
     }
 
     /// A sequence.
+    #[inline(always)]
     fn after_sequence(self, second: usize) -> Move
         ensures { (G : Setting) (T : Store) (h a : ℕ) → Resumes G h self.frame self.part.reading (Sequence a second) T T result }
     {
@@ -115,6 +117,7 @@ impl Handover {
     }
 
     /// A choice.
+    #[inline(always)]
     fn after_choice(self, grammar: &Grammar<'_>, second: usize, set: usize) -> Move
         ensures { (G : Setting) (T : Store) (h a : ℕ) → G.grammar ≡ meaning grammar.now.words.now → Resumes G h self.frame self.part.reading (Choice a second set) T T result }
     {
@@ -134,6 +137,7 @@ impl Handover {
     }
 
     /// A repetition.
+    #[inline(always)]
     fn after_round(self, again: usize) -> Move
         ensures { (G : Setting) (T : Store) (h : ℕ) → Resumes G h self.frame self.part.reading (Repetition again) T T result }
     {
@@ -147,6 +151,7 @@ impl Handover {
     }
 
     /// A call: the row of what its rule gave is put.
+    #[inline(always)]
     fn after_call<M: Memory>(self, memory: &mut M, fresh: &mut u32, rule: usize) -> Move
         requires { Fine self.part.reading }
         ensures resumed { (G : Setting) (h : ℕ) → GoesBy G M.keeps (M.P memory.old) (M.Q memory.old) → Resumes G h self.frame self.part.reading (Call rule) (store (M.table memory.old) fresh.old) (store (M.table memory.new) fresh.new) result }
