@@ -29,7 +29,20 @@ fn alone<'a>(call: Call<'a>, fields: &[u8]) -> Result<Command<'a>, Wrong> {
     Ok(Command::Call(call))
 }
 
+/// What a command asks for, with its fields.
+fn asked<'a>(heap: Global, command: &[u8], fields: &'a [u8]) -> Result<Command<'a>, Wrong> {
+    match command {
+        b"open" => alone(Call::Open, fields),
+        b"clear" => alone(Call::Clear, fields),
+        b"change" => Ok(Command::Call(Call::Change(fields))),
+        b"parse" => Ok(Command::Call(Call::Parse(only_number(fields)?))),
+        _ => Ok(Command::Part(lay(heap, command, fields)?)),
+    }
+}
+
 /// What the line asks for; nothing, if it is blank or a remark.
+// inlined, since a session may be mostly such lines
+#[inline(always)]
 pub fn read_command(heap: Global, line: &[u8]) -> Result<Option<Command<'_>>, Wrong> {
     if line.starts_with(b"#") {
         return Ok(None);
@@ -37,12 +50,5 @@ pub fn read_command(heap: Global, line: &[u8]) -> Result<Option<Command<'_>>, Wr
     let Some((command, fields)) = next_field(line) else {
         return Ok(None);
     };
-    let asked = match command {
-        b"open" => alone(Call::Open, fields)?,
-        b"clear" => alone(Call::Clear, fields)?,
-        b"change" => Command::Call(Call::Change(fields)),
-        b"parse" => Command::Call(Call::Parse(only_number(fields)?)),
-        _ => Command::Part(lay(heap, command, fields)?),
-    };
-    Ok(Some(asked))
+    Ok(Some(asked(heap, command, fields)?))
 }

@@ -1,5 +1,8 @@
 //! The fields of a line: apart by spaces.
-ghost use Rattle.std.specs.Prelude.{◌≡◌, ◌↔◌, All, IsNone, IsOk};
+ghost use Rattle.std.specs.Prelude.{◌≡◌, ◌↔◌, All, Err, IfErr, IfOk, IsNone, IsOk, Ok};
+ghost use Rattle.std.specs.List.{list_all};
+ghost use Rattle.hex.specs.Hex.{decode_of, is_hex_digit};
+ghost use Rattle.replay.specs.declared.said.Wrong.TheVariants.{NotUnderstood};
 
 use crate::said::Wrong;
 use rowtext::pieces::next_piece;
@@ -47,11 +50,30 @@ pub fn only_number(text: &[u8]) -> Result<usize, Wrong> {
     Ok(number)
 }
 
+/// Whether all bytes are hexadecimal digits.
+fn are_digits(field: &[u8]) -> bool
+    ensures { result ≡ list_all is_hex_digit field.now }
+{
+    field.iter().all(|byte| byte.is_ascii_hexdigit())
+}
+
+/// The bytes that a field writes, two digits each.
+// `decode` asks for memory first: what writes no bytes is refused before, whatever memory there is.
+fn decode_field(heap: Global, field: &[u8]) -> Result<Vec<u8>, Wrong>
+    ensures decoded { IfOk result (λ bytes. decode_of field.now ≡ Ok bytes.items) }
+    ensures malformed { IfErr (decode_of field.now) (λ _. result ≡ Err NotUnderstood) }
+{
+    if field.len() % 2 != 0 || !are_digits(field) {
+        return Err(Wrong::NotUnderstood);
+    }
+    Ok(hex::decode(heap, field)?)
+}
+
 /// Bytes, two hexadecimal digits each, in one field or none.
 pub fn read_bytes(heap: Global, text: &[u8]) -> Result<Vec<u8>, Wrong> {
     let Some((field, rest)) = next_field(text) else {
         return Ok(Vec::new(heap));
     };
     no_field(rest)?;
-    Ok(hex::decode(heap, field)?)
+    decode_field(heap, field)
 }

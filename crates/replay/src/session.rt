@@ -4,7 +4,7 @@ use crate::item::Item;
 use crate::keyed::Keyed;
 use crate::parts::{Laid, Part, Parts, Stored, StoredMemory, StoredText, Whole};
 use crate::said::{Answer, Said, Wrong};
-use crate::script::{Line, Script};
+use crate::script::Script;
 use bench::calls::{clear, open, parse};
 use bench::state::Settled;
 use engine::frame::Frame;
@@ -96,9 +96,9 @@ impl Session<'_> {
     /// Lays out parts until a bench is opened over them; none, if none is.
     fn lay_out<'p>(&mut self, parts: &'p mut Parts) -> anyhow::Result<Option<Whole<'p>>> {
         let rt = self.rt;
-        for line in &mut self.script {
-            if let Some(said) = lay_line(rt.alloc(), line.text, parts).transpose() {
-                answer(rt, line.number, said)?;
+        for (number, line) in &mut self.script {
+            if let Some(said) = lay_line(rt.alloc(), line, parts).transpose() {
+                answer(rt, number, said)?;
                 if let Ok(Said::Open) = said {
                     return Ok(Some(parts.whole()?));
                 }
@@ -116,19 +116,19 @@ impl Session<'_> {
     ) -> anyhow::Result<Option<Part>> {
         let rt = self.rt;
         let mut state = open(grammar, text, memory);
-        for line in &mut self.script {
-            match read_command(rt.alloc(), line.text) {
+        for (number, line) in &mut self.script {
+            match read_command(rt.alloc(), line) {
                 Ok(None) => {}
                 Ok(Some(Command::Part(Laid { said, part }))) => {
-                    answer(rt, line.number, Ok(said))?;
+                    answer(rt, number, Ok(said))?;
                     return Ok(Some(part));
                 }
                 Ok(Some(Command::Call(call))) => {
                     let (next, said) = made(rt.alloc(), call, state, grammar, text, memory);
                     state = next;
-                    answer(rt, line.number, said)?;
+                    answer(rt, number, said)?;
                 }
-                Err(wrong) => answer(rt, line.number, Err(wrong))?,
+                Err(wrong) => answer(rt, number, Err(wrong))?,
             }
         }
         Ok(None)
@@ -201,10 +201,10 @@ impl Session<'_> {
 }
 
 /// Runs a session.
-pub fn run(rt: &HostRuntime, lines: &[Line<'_>]) -> anyhow::Result<()> {
+pub fn run(rt: &HostRuntime, lines: &[&[u8]]) -> anyhow::Result<()> {
     let mut session = Session {
         rt,
-        script: lines.iter(),
+        script: (1..lines.len() + 1).zip(lines),
     };
     let mut parts = Parts::default();
     // as many benches as lines are enough, since each takes at least the line that opens it; so the loop is seen to end

@@ -1,5 +1,5 @@
 use Rattle.std.proofs.Common.{length}
 use Rattle.replay.proofs.script.lines_of.Given as goal
 
-abbrev pub decreases-loop-text : goal.decreases-loop-text
-decreases-loop-text l = length l.rest
+abbrev pub decreases-loop-line : goal.decreases-loop-line
+decreases-loop-line l = length l.rest
