@@ -166,6 +166,7 @@ abbrev pub place_from : ℕ → RulePlace → List Entry → Option ℕ
 place_from k a es = position_from (λ e. of_rule_place e a) k es
 
 module _ (e : Entry) where
+  -- where the entry's rule-place has no row, all are others
   pub without_none : (es : List Entry) → found es e.at.rule e.at.place e.at.mode ≡ None → without e es ≡ es
   without_none [] h = refl
   without_none (x ∷ xs) h =
@@ -174,16 +175,16 @@ module _ (e : Entry) where
         | inr f ↦ cond-false _ _ _ f ∙ ap (λ (zs : List Entry). x ∷ zs) (without_none xs (sym (found_next x xs _ _ _ f) ∙ h))
       ]
 
-  -- where the entry's rule-place is nowhere, all are others
-  others_all : (k : ℕ) (es : List Entry) → place_from k e.at es ≡ None → without e es ≡ es
-  others_all k [] h = refl
-  others_all k (x ∷ xs) h =
+  -- a rule-place that `position` does not find has no row
+  nowhere : (k : ℕ) (es : List Entry) → place_from k e.at es ≡ None → found es e.at.rule e.at.place e.at.mode ≡ None
+  nowhere k [] h = refl
+  nowhere k (x ∷ xs) h =
       elim (cases_Bool (of_rule_place x e.at)) [
         | inl t ↦ absurd (none-some k (sym h ∙ cond-true _ _ _ t))
-        | inr f ↦ cond-false _ _ _ (sym (names_eq x e.at) ∙ f) ∙ ap (λ (zs : List Entry). x ∷ zs) (others_all (k + 1) xs (sym (cond-false _ _ _ f) ∙ h))
+        | inr f ↦ found_next x xs _ _ _ (sym (names_eq x e.at) ∙ f) ∙ nowhere (k + 1) xs (sym (cond-false _ _ _ f) ∙ h)
       ]
 
-  -- and where it is at i, those before and behind are
+  -- those before and behind the entry at i are all others
   record Beside (es : List Entry) (i : ℕ) : Type 0 where
     pub low : i < length es
     pub others : without e es ≡ take i es ++ drop (suc i) es
@@ -227,7 +228,7 @@ module _ (e : Entry) where
 
   -- and one in front of all others, without the one put longest ago
   pub entered_new : (es zs : List Entry) → place_from 0 e.at es ≡ None → zs ≡ e ∷ take 63 es → zs ≡ entered e es
-  entered_new es zs h is = is ∙ ap (λ (ys : List Entry). e ∷ take 63 ys) (sym (others_all 0 es h))
+  entered_new es zs h is = is ∙ ap (λ (ys : List Entry). e ∷ take 63 ys) (sym (without_none es (nowhere 0 es h)))
 
 -- and from entries before and after a point each by themselves
 pub without-++ : (e : Entry) (xs ys : List Entry) → without e (xs ++ ys) ≡ without e xs ++ without e ys

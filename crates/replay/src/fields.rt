@@ -2,7 +2,7 @@
 ghost use Rattle.std.specs.Prelude.{◌≡◌, ◌↔◌, All, Err, IfErr, IfOk, IsNone, IsOk, Ok};
 ghost use Rattle.std.specs.List.{list_all};
 ghost use Rattle.hex.specs.Hex.{decode_of, is_hex_digit};
-ghost use Rattle.replay.specs.declared.said.Wrong.TheVariants.{NotUnderstood};
+ghost use Rattle.replay.specs.declared.said.Wrong.TheVariants.{NotUnderstood, TooLittleMemory};
 
 use crate::said::Wrong;
 use rowtext::pieces::next_piece;
@@ -62,6 +62,7 @@ fn are_digits(field: &[u8]) -> bool
 fn decode_field(heap: Global, field: &[u8]) -> Result<Vec<u8>, Wrong>
     ensures decoded { IfOk result (λ bytes. decode_of field.now ≡ Ok bytes.items) }
     ensures malformed { IfErr (decode_of field.now) (λ _. result ≡ Err NotUnderstood) }
+    ensures short { IfOk (decode_of field.now) (λ _. IfErr result (λ wrong. wrong ≡ TooLittleMemory (record {}))) }
 {
     if field.len() % 2 != 0 || !are_digits(field) {
         return Err(Wrong::NotUnderstood);

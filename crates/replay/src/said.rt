@@ -1,4 +1,8 @@
 //! What is answered to a line.
+ghost use Rattle.std.specs.Prelude.{◌≡◌};
+ghost use Rattle.hex.specs.declared.error.FromHexError.TheVariants.{OutOfMemory};
+ghost use Rattle.replay.specs.declared.said.Wrong.TheVariants.{TooLittleMemory};
+
 use grammar::fault::Place;
 use hex::FromHexError;
 use memo::whole::Refusal as MemoryRefusal;
@@ -49,6 +53,8 @@ impl Wrong {
 }
 
 impl From<FromHexError> for Wrong {
+    ghost from_gives = { λ error wrong. error ≡ OutOfMemory → wrong ≡ TooLittleMemory (record {}) };
+
     fn from(error: FromHexError) -> Wrong {
         match error {
             FromHexError::OutOfMemory => Wrong::TooLittleMemory(AllocError),

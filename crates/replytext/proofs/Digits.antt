@@ -66,3 +66,6 @@ pub eight_digits : (n : ℕ) → n < 2 ^ 32 → padded_integral (format_spec 32 
 eight_digits n small =
     let (m, le, long, is) = spelled 7 64 n [] small (omega arith) in
     rw (digits_on n) (padded n m _ le long is)
+
+pub marks_shown : (m n : ℕ) → n ≡ m → m < 2 ^ 32 → padded_integral (format_spec 32 0 4 8 (2 ^ 64 - 1)) false [] (digits 16 true n) ≡ marks_text m
+marks_shown m n is small = rw is (eight_digits m small)
